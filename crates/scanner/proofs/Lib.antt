@@ -1,0 +1,5 @@
+pub mod Classes
+pub mod Comments
+pub mod Cut
+pub mod Lists
+pub mod Tokens
