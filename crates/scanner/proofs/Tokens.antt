@@ -6,7 +6,7 @@ use mathlib.Core.Logic.{_⊎_, inl, inr, ⊎-elim}
 use Prim.Native.Nat.{ℕ, _+_, _-_, _≤_, _<_, pred, suc}
 use native.Mathlib.Omega.{arith}
 use lib.Dec.{eqb}
-use lib.ListN.{length, take, drop, length-take}
+use lib.ListN.{length, take, drop, length-take, length-drop}
 use denote.Ref.{RefT, now}
 use Rattle.std.specs.Joined.{joined}
 use Rattle.std.specs.declared.option.Option.{Option}
@@ -64,6 +64,7 @@ taken t b bs after is left said =
     record {
       heads = cut-cons first spelled b bs ∙ ap (λ (u : Token). u ∷ tokens (pastFront first spelled b bs)) is ∙ ap (λ (xs : List ℕ). meant t ∷ tokens xs) past;
       spells = sym (honest-first b bs) ∙ ap (λ (u : Token). spelled u ++ pastFront first spelled b bs) is ∙ ap (λ (xs : List ℕ). spelled (meant t) ++ xs) past;
+      shorter = omega (arith, simp length-drop at (ap length left));
       told = said }
 
 pub taken-final : (xs ys : List ℕ) → front xs ≡ Some 92 → ys ≡ drop 1 xs → front ys ≡ None → Taken FinalBackslash xs ys
@@ -135,3 +136,6 @@ not-comment (x ∷ y ∷ []) b p n = refl
 not-comment (x ∷ y ∷ z ∷ xs) b p n =
     let e : x ≡ b = cc in
     and-left (eqb x 40) (eqb y 63 && eqb z 35) (ne-eqb x 40 (λ h. n (sym e ∙ h)))
+
+pub no-tokens : (bs : List ℕ) → bs ≡ [] → tokens bs ≡ []
+no-tokens bs e = ap tokens e ∙ cut-nil first spelled

@@ -1,7 +1,8 @@
 -- What one read of a token gives and leaves.
 use mathlib.Core.Path.{_≡_}
 use mathlib.Core.List.{List, [], _∷_, _++_}
-use Prim.Native.Nat.{ℕ}
+use Prim.Native.Nat.{ℕ, _<_}
+use lib.ListN.{length}
 use Rattle.std.specs.declared.option.Option.{Option}
 use Rattle.std.specs.declared.option.Option.the-variants.{Some, None}
 use Rattle.scanner.specs.declared.parser.Token.{Token as Read}
@@ -28,6 +29,7 @@ pub record Taken (t : Read) (before after : List ℕ) : Type 0 where
   -- the token is the first of the text, and the rest are those of what is left
   pub heads : tokens before ≡ meant t ∷ tokens after
   pub spells : before ≡ spelled (meant t) ++ after
+  pub shorter : length after < length before
   pub told : Told t
 
 abbrev pub Next : Option Read → List ℕ → List ℕ → Type 0

@@ -1,7 +1,7 @@
 ghost use mathlib.Core.Path.{_≡_};
 ghost use mathlib.Core.List.{[], _∷_};
 ghost use Prim.Native.Nat.{_≤_};
-ghost use lib.ListN.{take};
+ghost use lib.ListN.{length, take};
 ghost use Rattle.std.specs.Of.Vec.{vec-cap, vec-items, vec-len};
 ghost use Rattle.std.specs.Vec.{made};
 ghost use Rattle.scanner.specs.Appends.{Appended};
@@ -40,7 +40,7 @@ impl<T: Copy> Buffer<T> {
     }
 
     pub fn len(&self) -> usize
-        ensures { λ r. ⌜ r ≡ vec-len (now (self .entry) .items) ⌝ }
+        ensures { λ r. ⌜ r ≡ length (vec-items (now (self .entry) .items)) ⌝ }
     {
         self.items.len()
     }

@@ -2,8 +2,12 @@
 
 mod buffer;
 mod class;
+mod newlines;
 mod parser;
 
 pub use buffer::Buffer;
+pub use buffer::LIMIT;
 pub use buffer::TooLong;
+pub use newlines::regex_for_newlines;
 pub use parser::Parser;
+pub use parser::Token;

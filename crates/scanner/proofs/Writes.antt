@@ -1,0 +1,35 @@
+-- Writing a text piece by piece: what is written, and then what is left, is the whole.
+use mathlib.Core.Path.{_≡_, refl, sym, ap, _∙_}
+use mathlib.Core.List.{List, [], _∷_, _++_, append-assoc}
+use Prim.Native.Nat.{ℕ, _+_, _≤_, _<_}
+use native.Mathlib.Omega.{arith}
+use lib.ListN.{length, take, length-append}
+use Rattle.std.proofs.shelf.Lists.{append-nil, take-append-le, take-at}
+
+pub record Writing {A : Type 0} (before whole items left : List A) : Type 0 where
+  -- what stood in the buffer is still there
+  pub kept : length before ≤ length items
+  pub same : items ++ left ≡ before ++ whole
+
+pub started : {A : Type 0} (before whole : List A) → Writing before whole before whole
+started before whole = record { kept = omega arith; same = refl }
+
+pub wrote : {A : Type 0} (before whole items left items′ left′ piece : List A) → Writing before whole items left →
+    left ≡ piece ++ left′ → items′ ≡ items ++ piece → Writing before whole items′ left′
+wrote before whole items left items′ left′ piece w l i =
+    record {
+      kept = omega (arith, w .kept, simp length-append at (ap length i));
+      same = ap (λ xs. xs ++ left′) i ∙ append-assoc items piece left′ ∙ sym (ap (λ xs. items ++ xs) l) ∙ w .same }
+
+pub ended : {A : Type 0} (before whole items left : List A) → Writing before whole items left → left ≡ [] → length items ≤ 65536 →
+    (length before + length whole ≤ 65536) × (items ≡ before ++ whole)
+ended before whole items left w l h =
+    let all : items ≡ before ++ whole = sym (append-nil items) ∙ sym (ap (λ xs. items ++ xs) l) ∙ w .same in
+    (omega (arith, h, simp length-append at (ap length all)), all)
+
+pub refused : {A : Type 0} (before whole items left items′ left′ piece : List A) (n : ℕ) → Writing before whole items left →
+    left ≡ piece ++ left′ → 65536 < length items + length piece → n ≡ length before → items′ ≡ take n items →
+    (65536 < length before + length whole) × (items′ ≡ before)
+refused before whole items left items′ left′ piece n w l over nb i =
+    (omega (arith, over, simp length-append at (ap length l), simp length-append at (ap length (w .same))),
+     i ∙ sym (take-append-le n items left (omega (arith, nb, w .kept))) ∙ ap (take n) (w .same) ∙ take-at before whole n (sym nb))
