@@ -3,5 +3,7 @@ pub mod Classes
 pub mod Comments
 pub mod Cut
 pub mod Lists
+pub mod Pieces
+pub mod Starts
 pub mod Tokens
 pub mod Writes

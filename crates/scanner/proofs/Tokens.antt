@@ -10,6 +10,7 @@ use lib.ListN.{length, take, drop, length-take, length-drop}
 use denote.Ref.{RefT, now}
 use Rattle.std.specs.Joined.{joined}
 use Rattle.std.specs.declared.option.Option.{Option}
+use Rattle.std.proofs.shelf.Lists.{append-cancel-left}
 use Rattle.std.proofs.shelf.Tests.{eqb-true, eq-eqb, ne-eqb, cond-true, cond-false, and-left}
 use Rattle.std.specs.declared.option.Option.the-variants.{Some, None}
 use Rattle.scanner.specs.declared.parser.Token.{Token as Read}
@@ -37,7 +38,7 @@ commented b bs = go (eqb b 41) where
 honest-taken : (n : ℕ) (b : ℕ) (bs : List ℕ) → take (suc n) (b ∷ bs) ++ drop (pred (length (take (suc n) (b ∷ bs)))) bs ≡ b ∷ bs
 honest-taken n b bs = ap (λ (xs : List ℕ). b ∷ xs) (take-drop-taken n bs)
 
-honest-first : Honest first spelled
+pub honest-first : Honest first spelled
 unfolding first
 honest-first b bs = go (eqb b 92) refl (eqb b 91) (opensComment (b ∷ bs)) where
   shape : Bool → Bool → Bool → Token
@@ -139,3 +140,11 @@ not-comment (x ∷ y ∷ z ∷ xs) b p n =
 
 pub no-tokens : (bs : List ℕ) → bs ≡ [] → tokens bs ≡ []
 no-tokens bs e = ap tokens e ∙ cut-nil first spelled
+
+-- what was taken is the token at the front, and what is left stands behind it
+pub taken-first : (t : Read) (x : ℕ) (xs ys : List ℕ) → Taken t (x ∷ xs) ys → (first (x ∷ xs) ≡ meant t) × (ys ≡ pastFront first spelled x xs)
+taken-first t x xs ys w =
+    let both : first (x ∷ xs) ∷ tokens (pastFront first spelled x xs) ≡ meant t ∷ tokens ys = sym (cut-cons first spelled x xs) ∙ w .heads in
+    let is : first (x ∷ xs) ≡ meant t = cc in
+    (is, append-cancel-left (spelled (meant t)) ys (pastFront first spelled x xs)
+      (sym (w .spells) ∙ sym (honest-first x xs) ∙ ap (λ (u : Token). spelled u ++ pastFront first spelled x xs) is))

@@ -4,6 +4,9 @@ use mathlib.Core.List.{List, [], _∷_, _++_, append-assoc}
 use Prim.Native.Nat.{ℕ, _+_, _≤_, _<_}
 use native.Mathlib.Omega.{arith}
 use lib.ListN.{length, take, length-append}
+use Rattle.std.specs.declared.result.Result.{Result}
+use Rattle.std.specs.declared.result.Result.the-variants.{Ok, Err}
+use Rattle.scanner.specs.Appends.{Appended}
 use Rattle.std.proofs.shelf.Lists.{append-nil, take-append-le, take-at}
 
 pub record Writing {A : Type 0} (before whole items left : List A) : Type 0 where
@@ -33,3 +36,11 @@ pub refused : {A : Type 0} (before whole items left items′ left′ piece : Lis
 refused before whole items left items′ left′ piece n w l over nb i =
     (omega (arith, over, simp length-append at (ap length l), simp length-append at (ap length (w .same))),
      i ∙ sym (take-append-le n items left (omega (arith, nb, w .kept))) ∙ ap (take n) (w .same) ∙ take-at before whole n (sym nb))
+
+-- a text that is written in three parts, where there is room for all of it
+pub appended-last : {A V E : Type 0} (before a b c i j after : List A) (r : Result V E) → length before + length (a ++ (b ++ c)) ≤ 65536 →
+    i ≡ before ++ a → j ≡ i ++ b → Appended j c r after → Appended before (a ++ (b ++ c)) r after
+appended-last before a b c i j after (Ok v) room p q w =
+    (room, w .1 ∙ ap (λ xs. xs ++ c) (q ∙ ap (λ xs. xs ++ b) p) ∙ append-assoc (before ++ a) b c ∙ append-assoc before a (b ++ c))
+appended-last before a b c i j after (Err e) room p q w =
+    absurd (omega (arith, w .0, simp length-append at room, simp length-append at (ap length p), simp length-append at (ap length q)))

@@ -3,6 +3,7 @@ pub mod Classes
 pub mod Cursor
 pub mod Cut
 pub mod Newlines
+pub mod Pieces
 pub mod Reads
 pub mod Starts
 pub mod Tokens

@@ -1,9 +1,10 @@
 ghost use mathlib.Core.Path.{_≡_};
 ghost use lib.ListN.{length, take, drop};
 ghost use Rattle.scanner.specs.Cursor.{front};
-ghost use mathlib.Core.Bool.{false};
+ghost use mathlib.Core.Bool.{cond, false};
 ghost use Rattle.std.specs.declared.option.Option.the-variants.{Some};
 ghost use Rattle.scanner.specs.Reads.{Next, Taken};
+ghost use Rattle.scanner.specs.Starts.{starts};
 ghost use Rattle.scanner.specs.Tokens.{commentLength, opensComment};
 use crate::class::class_extent;
 
@@ -63,6 +64,18 @@ impl<'a> Parser<'a> {
         let (front, back) = bytes.split_at(n.min(bytes.len()));
         self.rest = back;
         front
+    }
+
+    /// Goes on behind `prefix` if that stands here, and says whether it does.
+    pub fn eat(&mut self, prefix: &[u8]) -> bool
+        ensures found { λ r. ⌜ r ≡ starts (now (prefix .entry)) (now (now (self .entry) .rest)) ⌝ }
+        ensures left { λ r. ⌜ now (now (self .exit) .rest) ≡ cond r (drop (length (now (prefix .entry))) (now (now (self .entry) .rest))) (now (now (self .entry) .rest)) ⌝ }
+    {
+        let found = starts_with(self.rest, prefix);
+        if found {
+            self.advance(prefix.len());
+        }
+        found
     }
 
     /// `(?#` stands here.
@@ -128,4 +141,10 @@ fn comment_length(text: &[u8]) -> usize
         }
     }
     length
+}
+
+pub(crate) fn starts_with(text: &[u8], prefix: &[u8]) -> bool
+    ensures { λ r. ⌜ r ≡ starts (now (prefix .entry)) (now (text .entry)) ⌝ }
+{
+    text.starts_with(prefix)
 }
