@@ -4,6 +4,7 @@ pub mod Comments
 pub mod Cut
 pub mod Lists
 pub mod Pieces
+pub mod PosixLaws
 pub mod Starts
 pub mod Tokens
 pub mod Writes

@@ -148,3 +148,7 @@ taken-first t x xs ys w =
     let is : first (x ∷ xs) ≡ meant t = cc in
     (is, append-cancel-left (spelled (meant t)) ys (pastFront first spelled x xs)
       (sym (w .spells) ∙ sym (honest-first x xs) ∙ ap (λ (u : Token). spelled u ++ pastFront first spelled x xs) is))
+
+pub front-length : (xs ys : List ℕ) (b : ℕ) → front xs ≡ Some b → ys ≡ drop 1 xs → length xs ≡ length ys + 1
+front-length [] ys b p q = none-some b p
+front-length (x ∷ xs) ys b p q = omega (arith, ap length q)

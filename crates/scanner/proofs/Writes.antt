@@ -24,6 +24,9 @@ wrote before whole items left items′ left′ piece w l i =
       kept = omega (arith, w .kept, simp length-append at (ap length i));
       same = ap (λ xs. xs ++ left′) i ∙ append-assoc items piece left′ ∙ sym (ap (λ xs. items ++ xs) l) ∙ w .same }
 
+pub settled : {A : Type 0} (before whole items left left′ : List A) → Writing before whole items left → left ≡ left′ → Writing before whole items left′
+settled before whole items left left′ w e = record { kept = w .kept; same = sym (ap (λ xs. items ++ xs) e) ∙ w .same }
+
 pub ended : {A : Type 0} (before whole items left : List A) → Writing before whole items left → left ≡ [] → length items ≤ 65536 →
     (length before + length whole ≤ 65536) × (items ≡ before ++ whole)
 ended before whole items left w l h =

@@ -12,7 +12,7 @@ abbrev pub opened : ClassWalker
 opened = record { state = Start; negated = false; depth = 0; newline = false }
 
 -- a byte that is not escaped: a backslash escapes the next, `[` opens a bracket inside the class
-abbrev bare : ClassWalker → ℕ → ClassWalker
+abbrev pub bare : ClassWalker → ℕ → ClassWalker
 bare w b = cond (eqb b 92) (record { state = Escaped; negated = w .negated; depth = w .depth; newline = w .newline })
     (cond (eqb b 91) (record { state = Inside; negated = w .negated; depth = w .depth + 1; newline = w .newline })
     (record { state = Inside; negated = w .negated; depth = w .depth; newline = w .newline }))

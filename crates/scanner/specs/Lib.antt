@@ -4,6 +4,7 @@ pub mod Cursor
 pub mod Cut
 pub mod Newlines
 pub mod Pieces
+pub mod Posix
 pub mod Reads
 pub mod Starts
 pub mod Tokens

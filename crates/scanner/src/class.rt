@@ -2,6 +2,7 @@ ghost use mathlib.Core.Path.{_≡_};
 ghost use Prim.Native.Nat.{_<_, _^_, _+_, _≤_};
 ghost use lib.ListN.{length};
 ghost use Rattle.scanner.specs.Classes.{closes, opened, stepped};
+ghost use Rattle.scanner.specs.Posix.{isEscaped, passed};
 ghost use Rattle.scanner.specs.Tokens.{classLength, newlineIn};
 
 /// Where the walk through a class stands.
@@ -64,6 +65,20 @@ impl ClassWalker {
             (_, _) => self.state = ClassState::Inside,
         }
         false
+    }
+
+    /// The next byte is escaped.
+    pub(crate) fn is_escaped(&self) -> bool
+        ensures { λ r. ⌜ r ≡ isEscaped (now (self .entry) .state) ⌝ }
+    {
+        matches!(self.state, ClassState::Escaped)
+    }
+
+    /// Goes on behind a bracket that is opened and closed inside the class.
+    pub(crate) fn pass_bracket(&mut self)
+        ensures { λ _. ⌜ now (self .exit) ≡ passed (now (self .entry)) ⌝ }
+    {
+        self.state = ClassState::Inside;
     }
 }
 

@@ -4,10 +4,12 @@ mod buffer;
 mod class;
 mod newlines;
 mod parser;
+mod posix;
 
 pub use buffer::Buffer;
 pub use buffer::LIMIT;
 pub use buffer::TooLong;
 pub use newlines::regex_for_newlines;
+pub use newlines::regex_for_no_newlines;
 pub use parser::Parser;
 pub use parser::Token;

@@ -36,6 +36,13 @@ impl<'a> Parser<'a> {
         Parser { rest: bytes }
     }
 
+    /// What is left of the text.
+    pub fn rest(&self) -> &'a [u8]
+        ensures { λ r. ⌜ now r ≡ now (now (self .entry) .rest) ⌝ }
+    {
+        self.rest
+    }
+
     /// The next byte, which stays.
     pub fn peek(&self) -> Option<u8>
         ensures { λ r. ⌜ r ≡ front (now (now (self .entry) .rest)) ⌝ }
