@@ -24,11 +24,15 @@ use Rattle.scanner.specs.declared.posix.PosixClass.the-variants.{Alpha, Alnum,
 use Rattle.scanner.specs.Classes.{opened, bare, from, stepped, closes, inside}
 use Rattle.scanner.specs.Cut.{pastFront}
 use Rattle.scanner.specs.Starts.{starts}
+use Rattle.scanner.specs.declared.parser.Token.{Token as Read}
+use Rattle.scanner.specs.Appends.{Appended}
+use Rattle.scanner.specs.Reads.{meant, Taken}
 use Rattle.scanner.specs.Cursor.{front}
-use Rattle.scanner.specs.Tokens.{Token, class, spelled, first, tokens, classLength}
-use Rattle.scanner.specs.Posix.{Member, escaped, bracket, single, bracketOf, propertyOf, firstOf, posixClasses, bracketAt, bracketOr, escapedOr, firstMember, spelledMember, members, withProperty, replacedFrom, restReplaced, restBehind, isEscaped, bracketHere, passed, classText, classWithProperties, Replaced}
+use Rattle.scanner.specs.Tokens.{Token, class, comment, plain, spelled, first, tokens, escaping, opensComment, classLength, commentLength}
+use Rattle.scanner.specs.Posix.{Member, escaped, bracket, single, bracketOf, propertyOf, firstOf, posixClasses, bracketAt, bracketOr, escapedOr, firstMember, spelledMember, members, withProperty, replacedFrom, restReplaced, restBehind, isEscaped, bracketHere, passed, classText, classWithProperties, tokenWithProperties, Replaced, ReplacedToken}
 use Rattle.scanner.proofs.Cut.{cut-nil, cut-cons}
 use Rattle.scanner.proofs.Lists.{drop-least}
+use Rattle.scanner.proofs.Tokens.{taken-first}
 use Rattle.scanner.proofs.Writes.{Writing}
 use Rattle.scanner.proofs.Starts.{starts-split, starts-front}
 
@@ -319,3 +323,37 @@ byte-front w xs b p none = go (closes w b) refl where
   go : (t : Bool) → closes w b ≡ t → (left : List ℕ) × (restReplaced w xs ≡ (b ∷ []) ++ left)
   go true shut = ([], step-closing w xs (drop 1 xs) b p refl shut .0)
   go false goes = (restReplaced (stepped w b) (drop 1 xs), step-byte w (stepped w b) xs (drop 1 xs) b p refl goes refl none .0)
+
+-- The token at the front is a class,
+pub token-replaced : {V E : Type 0} (r : Result V E) (before after items items′ : List ℕ) {b : ℕ} → front before ≡ Some b → b ≡ 91 → Replaced r before after items items′ →
+    ReplacedToken r before after items items′
+token-replaced (Ok v) before after items items′ p e w = (class (classText before), w .0, w .1, w .2)
+token-replaced (Err x) before after items items′ p e w =
+    (class (classText before), tokens (restBehind opened (drop 1 before)), class-heads before (drop 1 before) (restBehind opened (drop 1 before)) (p ∙ ap Some e) refl refl .0, w .0, w .1)
+
+-- or it is none, and stays as it is
+same-outside : (x : ℕ) (xs : List ℕ) → (x ≡ 91 → ⊥) → tokenWithProperties (first (x ∷ xs)) ≡ spelled (first (x ∷ xs))
+unfolding first
+same-outside x xs n = go (eqb x 92) (opensComment (x ∷ xs)) (ne-eqb x 91 n) xs where
+  shape : Bool → Bool → Bool → List ℕ → Token
+  shape s t u ys = cond s (escaping ys) (cond t (class (x ∷ take (classLength opened xs) xs)) (cond u (comment (take (commentLength false (x ∷ xs)) (x ∷ xs))) (plain x)))
+  go : (s u : Bool) → eqb x 91 ≡ false → (ys : List ℕ) → tokenWithProperties (shape s (eqb x 91) u ys) ≡ spelled (shape s (eqb x 91) u ys)
+  go true u e [] = refl
+  go true u e (y ∷ ys) = refl
+  go false u e ys = subst (λ (t : Bool). tokenWithProperties (shape false t u ys) ≡ spelled (shape false t u ys)) (sym e) (inner u) where
+    inner : (u : Bool) → tokenWithProperties (shape false false u ys) ≡ spelled (shape false false u ys)
+    inner true = refl
+    inner false = refl
+
+pub token-kept : {V E : Type 0} (r : Result V E) (t : Read) (before after items items′ : List ℕ) (b : ℕ) → front before ≡ Some b → (b ≡ 91 → ⊥) →
+    Taken t before after → Appended items (spelled (meant t)) r items′ → ReplacedToken r before after items items′
+token-kept r t [] after items items′ b p n w a = let z : _≡_ {A = ℕ} 0 1 = cc in absurd (omega arith)
+token-kept {V = V} {E = E} r t (x ∷ xs) after items items′ b p n w a = go r a where
+  same : tokenWithProperties (meant t) ≡ spelled (meant t)
+  same =
+    let e : x ≡ b = cc in
+    let is = taken-first t x xs after w .0 in
+    ap tokenWithProperties (sym is) ∙ same-outside x xs (λ h. n (sym e ∙ h)) ∙ ap spelled is
+  go : (r : Result V E) → Appended items (spelled (meant t)) r items′ → ReplacedToken r (x ∷ xs) after items items′
+  go (Ok v) a = (meant t, w .heads, w .shorter, a .1 ∙ ap (λ (us : List ℕ). items ++ us) (sym same))
+  go (Err y) a = (meant t, tokens after, w .heads, omega (arith, a .0, ap length same), ap (take (length items)) (a .1) ∙ take-all (length items) items (omega arith))

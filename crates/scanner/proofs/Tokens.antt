@@ -152,3 +152,6 @@ taken-first t x xs ys w =
 pub front-length : (xs ys : List ℕ) (b : ℕ) → front xs ≡ Some b → ys ≡ drop 1 xs → length xs ≡ length ys + 1
 front-length [] ys b p q = none-some b p
 front-length (x ∷ xs) ys b p q = omega (arith, ap length q)
+
+pub no-front : (xs : List ℕ) (b : ℕ) → front xs ≡ Some b → xs ≡ [] → ⊥
+no-front xs b p e = none-some b (sym (ap front e) ∙ p)

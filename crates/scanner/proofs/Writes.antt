@@ -7,7 +7,7 @@ use lib.ListN.{length, take, length-append}
 use Rattle.std.specs.declared.result.Result.{Result}
 use Rattle.std.specs.declared.result.Result.the-variants.{Ok, Err}
 use Rattle.scanner.specs.Appends.{Appended}
-use Rattle.std.proofs.shelf.Lists.{append-nil, take-append-le, take-at}
+use Rattle.std.proofs.shelf.Lists.{append-nil, take-append-le, take-at, take-take}
 
 pub record Writing {A : Type 0} (before whole items left : List A) : Type 0 where
   -- what stood in the buffer is still there
@@ -32,6 +32,10 @@ pub ended : {A : Type 0} (before whole items left : List A) → Writing before w
 ended before whole items left w l h =
     let all : items ≡ before ++ whole = sym (append-nil items) ∙ sym (ap (λ xs. items ++ xs) l) ∙ w .same in
     (omega (arith, h, simp length-append at (ap length all)), all)
+
+-- a cut at what stood there takes away what was written of a piece
+pub taken-back : {A : Type 0} (n : ℕ) (items items′ : List A) → n ≤ length items → take (length items) items′ ≡ items → take n items′ ≡ take n items
+taken-back n items items′ h e = sym (take-take n (length items) items′ h) ∙ ap (take n) e
 
 pub refused : {A : Type 0} (before whole items left items′ left′ piece : List A) (n : ℕ) → Writing before whole items left →
     left ≡ piece ++ left′ → 65536 < length items + length piece → n ≡ length before → items′ ≡ take n items →

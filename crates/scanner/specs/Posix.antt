@@ -133,3 +133,10 @@ Replaced (Ok v) before after items items′ =
     (tokens before ≡ class (classText before) ∷ tokens after) × (length after < length before) × (items′ ≡ items ++ classWithProperties (classText before))
 Replaced (Err e) before after items items′ =
     (65536 < length items + length (classWithProperties (classText before))) × (take (length items) items′ ≡ items)
+
+-- The token at the front of `before` is written; or there is no room for it, and what was written of it can be taken away.
+abbrev pub ReplacedToken : {V E : Type 0} → Result V E → (before after items items′ : List ℕ) → Type 0
+ReplacedToken (Ok v) before after items items′ =
+    (t : Token) × (tokens before ≡ t ∷ tokens after) × (length after < length before) × (items′ ≡ items ++ tokenWithProperties t)
+ReplacedToken (Err e) before after items items′ =
+    (t : Token) × (ts : List Token) × (tokens before ≡ t ∷ ts) × (65536 < length items + length (tokenWithProperties t)) × (take (length items) items′ ≡ items)

@@ -13,3 +13,4 @@ pub use newlines::regex_for_newlines;
 pub use newlines::regex_for_no_newlines;
 pub use parser::Parser;
 pub use parser::Token;
+pub use posix::replace_posix_char_classes;

@@ -3,7 +3,7 @@ ghost use Rattle.std.specs.Of.Vec.{vec-items};
 ghost use Rattle.std.specs.declared.option.Option.the-variants.{Some};
 ghost use Rattle.scanner.specs.Appends.{Appended};
 ghost use Rattle.scanner.specs.Cursor.{front};
-ghost use Rattle.scanner.specs.Posix.{Replaced, bracketAt, bracketHere, propertyOf, withProperties};
+ghost use Rattle.scanner.specs.Posix.{Replaced, ReplacedToken, bracketAt, bracketHere, propertyOf, withProperties};
 use crate::buffer::Buffer;
 use crate::buffer::TooLong;
 use crate::class::ClassWalker;
@@ -89,6 +89,36 @@ fn replace_in_class(parser: &mut Parser, out: &mut Buffer<u8>) -> Result<(), Too
             if walker.step(byte) {
                 break;
             }
+        }
+    }
+    Ok(())
+}
+
+/// Writes the token that stands here, which begins with `byte`, and goes on behind it.
+/// Where there is no room, what is written of it stays for the caller to take away.
+fn replace_token(byte: u8, parser: &mut Parser, out: &mut Buffer<u8>) -> Result<(), TooLong>
+    requires { ⌜ front (now (now parser .rest)) ≡ Some byte ⌝ }
+    ensures { λ r. ⌜ ReplacedToken r (now (now (parser .entry) .rest)) (now (now (parser .exit) .rest)) (vec-items (now (out .entry) .items)) (vec-items (now (out .exit) .items)) ⌝ }
+{
+    if byte == b'[' {
+        return replace_in_class(parser, out);
+    }
+    match parser.token() {
+        Some(token) => write_token(token, out),
+        None => Ok(()),
+    }
+}
+
+/// Puts Unicode properties in the place of the POSIX brackets of the pattern's classes, which match ASCII only.
+pub fn replace_posix_char_classes(regex: &[u8], out: &mut Buffer<u8>) -> Result<(), TooLong>
+    ensures { λ r. ⌜ Appended (vec-items (now (out .entry) .items)) (withProperties (now (regex .entry))) r (vec-items (now (out .exit) .items)) ⌝ }
+{
+    let before = out.len();
+    let mut parser = Parser::new(regex);
+    while let Some(byte) = parser.peek() {
+        if let Err(refusal) = replace_token(byte, &mut parser, out) {
+            out.truncate(before);
+            return Err(refusal);
         }
     }
     Ok(())
