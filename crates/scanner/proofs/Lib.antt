@@ -3,6 +3,7 @@ pub mod Classes
 pub mod Comments
 pub mod Cut
 pub mod Lists
+pub mod Marks
 pub mod Pieces
 pub mod PosixLaws
 pub mod Starts

@@ -1,7 +1,9 @@
 pub mod Appends
+pub mod Captures
 pub mod Classes
 pub mod Cursor
 pub mod Cut
+pub mod Marks
 pub mod Newlines
 pub mod Pieces
 pub mod Posix

@@ -1,6 +1,6 @@
 -- The tokens of a pattern: an escape, a class, a comment, a backslash at the very end, any other byte.
 use mathlib.Core.Path.{_≡_}
-use mathlib.Core.Bool.{Bool, true, false, cond, _&&_}
+use mathlib.Core.Bool.{Bool, true, false, cond, not, _&&_}
 use mathlib.Core.List.{List, [], _∷_, _++_}
 use Prim.Native.Nat.{ℕ, _+_, _-_, suc}
 use lib.Dec.{eqb}
@@ -54,6 +54,11 @@ opensComment [] = false
 opensComment (b ∷ []) = false
 opensComment (b ∷ c ∷ []) = false
 opensComment (b ∷ c ∷ d ∷ bs) = eqb b 40 && (eqb c 63 && eqb d 35)
+
+-- a `(` stands here that opens a group
+abbrev pub opensGroup : List ℕ → Bool
+opensGroup [] = false
+opensGroup (b ∷ bs) = eqb b 40 && not (opensComment (b ∷ bs))
 
 abbrev pub escaping : List ℕ → Token
 escaping [] = final

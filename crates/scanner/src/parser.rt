@@ -5,7 +5,7 @@ ghost use mathlib.Core.Bool.{cond, false};
 ghost use Rattle.std.specs.declared.option.Option.the-variants.{Some};
 ghost use Rattle.scanner.specs.Reads.{Next, Taken};
 ghost use Rattle.scanner.specs.Starts.{starts};
-ghost use Rattle.scanner.specs.Tokens.{commentLength, opensComment};
+ghost use Rattle.scanner.specs.Tokens.{commentLength, opensComment, opensGroup};
 use crate::class::class_extent;
 
 /// One token of a pattern.
@@ -83,6 +83,13 @@ impl<'a> Parser<'a> {
             self.advance(prefix.len());
         }
         found
+    }
+
+    /// A group opens here.
+    pub(crate) fn opens_group(&self) -> bool
+        ensures { λ r. ⌜ r ≡ opensGroup (now (now (self .entry) .rest)) ⌝ }
+    {
+        matches!(self.rest, [b'(', ..]) && !self.opens_comment()
     }
 
     /// `(?#` stands here.
