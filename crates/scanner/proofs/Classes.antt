@@ -45,11 +45,11 @@ newline-closed w v bs i h shut e =
     at-drop-more (newlineIn w) bs i 0 h
     ∙ cond-true (closes w (getD bs i 0)) (w .newline) (newlineIn (stepped w (getD bs i 0)) (drop (i + 1) bs)) shut
     ∙ kept (w .state) w (getD bs i 0) shut ∙ ap (λ (u : ClassWalker). u .newline) (sym e) where
-  kept : (s : ClassState) (w : ClassWalker) (b : ℕ) → inside s && (eqb b 93 && eqb (w .depth) 0) ≡ true → w .newline ≡ from s w b .newline
-  kept Start w b h = absurd (clash h)
-  kept Negated w b h = absurd (clash h)
-  kept Escaped w b h = absurd (clash h)
-  kept Inside w b h = sym (ap (λ (u : ClassWalker). u .newline) (cond-true (eqb b 93) _ _ (and-parts (eqb b 93) (eqb (w .depth) 0) h .0)))
+      kept : (s : ClassState) (w : ClassWalker) (b : ℕ) → inside s && (eqb b 93 && eqb (w .depth) 0) ≡ true → w .newline ≡ from s w b .newline
+      kept Start w b h = absurd (clash h)
+      kept Negated w b h = absurd (clash h)
+      kept Escaped w b h = absurd (clash h)
+      kept Inside w b h = sym (ap (λ (u : ClassWalker). u .newline) (cond-true (eqb b 93) _ _ (and-parts (eqb b 93) (eqb (w .depth) 0) h .0)))
 
 pub newline-end : (w : ClassWalker) (bs : List ℕ) (i : ℕ) → length bs ≤ i → newlineIn w (drop i bs) ≡ w .newline
 newline-end w bs i h = at-drop-all (newlineIn w) bs i h
@@ -68,6 +68,6 @@ pub newline-taken : (w : ClassWalker) (bs : List ℕ) → newlineIn w (take (cla
 newline-taken w [] = refl
 newline-taken w (b ∷ bs) = go (closes w b) refl (newline-taken (stepped w b) bs) where
   go : (t : Bool) → closes w b ≡ t → newlineIn (stepped w b) (take (classLength (stepped w b) bs) bs) ≡ newlineIn (stepped w b) bs →
-    newlineIn w (take (cond t 1 (suc (classLength (stepped w b) bs))) (b ∷ bs)) ≡ cond t (w .newline) (newlineIn (stepped w b) bs)
+      newlineIn w (take (cond t 1 (suc (classLength (stepped w b) bs))) (b ∷ bs)) ≡ cond t (w .newline) (newlineIn (stepped w b) bs)
   go true e _ = cond-true (closes w b) (w .newline) (newlineIn (stepped w b) []) e
   go false e rest = cond-false (closes w b) (w .newline) (newlineIn (stepped w b) (take (classLength (stepped w b) bs) bs)) e ∙ rest

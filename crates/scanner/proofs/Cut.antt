@@ -19,7 +19,7 @@ enough front spelled (suc n) (suc m) [] h k = refl
 enough {A = A} front spelled (suc n) (suc m) (b ∷ bs) h k =
     ap (λ (ps : List A). front (b ∷ bs) ∷ ps)
     (enough front spelled n m (pastFront front spelled b bs)
-      (simp length-drop (omega arith)) (simp length-drop (omega arith)))
+    (simp length-drop (omega arith)) (simp length-drop (omega arith)))
 
 pub cut-nil : {A : Type 0} (front : List ℕ → A) (spelled : A → List ℕ) → cut front spelled [] ≡ []
 unfolding cut
@@ -31,7 +31,7 @@ unfolding cut
 cut-cons {A = A} front spelled b bs =
     ap (λ (ps : List A). front (b ∷ bs) ∷ ps)
     (enough front spelled (length bs) (length (pastFront front spelled b bs)) (pastFront front spelled b bs)
-      (simp length-drop (omega arith)) (omega arith))
+    (simp length-drop (omega arith)) (omega arith))
 
 joined-within : {A : Type 0} (front : List ℕ → A) (spelled : A → List ℕ) → Honest front spelled → (n : ℕ) (bs : List ℕ) → length bs ≤ n →
     joined spelled (cutWithin front spelled n bs) ≡ bs
@@ -40,7 +40,7 @@ joined-within front spelled honest zero (b ∷ bs) h = absurd (omega arith)
 joined-within front spelled honest (suc n) [] h = refl
 joined-within front spelled honest (suc n) (b ∷ bs) h =
     ap (λ (xs : List ℕ). spelled (front (b ∷ bs)) ++ xs)
-      (joined-within front spelled honest n (pastFront front spelled b bs) (simp length-drop (omega arith)))
+    (joined-within front spelled honest n (pastFront front spelled b bs) (simp length-drop (omega arith)))
     ∙ honest b bs
 
 -- the pieces joined are the text

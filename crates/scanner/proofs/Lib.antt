@@ -4,6 +4,7 @@ pub mod Comments
 pub mod Cut
 pub mod Lists
 pub mod Marks
+pub mod Pairs
 pub mod Pieces
 pub mod PosixLaws
 pub mod Starts

@@ -50,14 +50,15 @@ taken-group (x ∷ xs) ys behind o g n h b e w l k =
     let here : firstMark (x ∷ xs) ≡ group (groupOf (opening xs) xs) text = cond-true (opensGroup (x ∷ xs)) _ _ h in
     let gone : ys ≡ drop m xs = l ∙ ap (λ (j : ℕ). drop j (x ∷ xs)) (w ∙ ap width op ∙ many) in
     let past : pastFront firstMark spelledMark x xs ≡ ys =
-      ap (λ (s : Mark). drop (pred (length (spelledMark s))) xs) here ∙ ap (λ (j : ℕ). drop (pred (length (take j (x ∷ xs)))) xs) many
-      ∙ drop-least m (length (take m xs)) xs (length-take m xs) ∙ sym gone in
+    ap (λ (s : Mark). drop (pred (length (spelledMark s))) xs) here ∙ ap (λ (j : ℕ). drop (pred (length (take j (x ∷ xs)))) xs) many
+    ∙ drop-least m (length (take m xs)) xs (length-take m xs) ∙ sym gone in
     record {
       mark = group (groupOf (opening xs) xs) text;
       stands = k ∙ ap (λ (p : Opening). groupOf p behind) op ∙ ap (groupOf (opening xs)) b;
       heads = cut-cons firstMark spelledMark x xs ∙ ap (λ (s : Mark). s ∷ marks (pastFront firstMark spelledMark x xs)) here
-        ∙ ap (λ (zs : List ℕ). group (groupOf (opening xs) xs) text ∷ marks zs) past;
-      shorter = omega (arith, simp length-drop at (ap length gone)) }
+          ∙ ap (λ (zs : List ℕ). group (groupOf (opening xs) xs) text ∷ marks zs) past;
+      shorter = omega (arith, simp length-drop at (ap length gone));
+    }
 
 pub taken-other : (t : Read) (xs ys : List ℕ) → opensGroup xs ≡ false → Taken t xs ys → TakenMark (Tokened t) xs ys
 unfolding firstMark
@@ -70,8 +71,9 @@ taken-other t (x ∷ xs) ys e w =
       mark = token (meant t);
       stands = refl;
       heads = cut-cons firstMark spelledMark x xs ∙ ap (λ (s : Mark). s ∷ marks (pastFront firstMark spelledMark x xs)) (here ∙ ap token is)
-        ∙ ap (λ (zs : List ℕ). token (meant t) ∷ marks zs) past;
-      shorter = w .shorter }
+          ∙ ap (λ (zs : List ℕ). token (meant t) ∷ marks zs) past;
+      shorter = w .shorter;
+    }
 
 pub no-marks : (bs : List ℕ) → bs ≡ [] → marks bs ≡ []
 no-marks bs e = ap marks e ∙ cut-nil firstMark spelledMark

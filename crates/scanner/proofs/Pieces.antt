@@ -26,6 +26,7 @@ unfolding firstPiece
 honest-piece b bs = go (starts optionalNewline (b ∷ bs)) refl where
   shape : Bool → Piece
   shape t = cond t optional (token (first (b ∷ bs)))
+
   go : (t : Bool) → starts optionalNewline (b ∷ bs) ≡ t → spelledPiece (shape t) ++ drop (pred (length (spelledPiece (shape t)))) bs ≡ b ∷ bs
   go true e = sym (starts-split optionalNewline (b ∷ bs) e)
   go false e = honest-first b bs
@@ -45,7 +46,8 @@ taken-optional (x ∷ xs) ys e l =
     record {
       heads = cut-cons firstPiece spelledPiece x xs ∙ ap (λ (p : Piece). p ∷ pieces (pastFront firstPiece spelledPiece x xs)) here ∙ ap (λ (zs : List ℕ). optional ∷ pieces zs) past;
       shorter = omega (arith, simp length-drop at (ap length l));
-      told = tt }
+      told = tt;
+    }
 
 pub taken-token : (t : Read) (xs ys : List ℕ) → starts optionalNewline xs ≡ false → Taken t xs ys → TakenPiece (Tokened t) xs ys
 unfolding firstPiece
@@ -56,6 +58,7 @@ taken-token t (x ∷ xs) ys e w =
     let past : pastFront firstPiece spelledPiece x xs ≡ ys = ap (λ (p : Piece). drop (pred (length (spelledPiece p))) xs) here ∙ sym (taken-first t x xs ys w .1) in
     record {
       heads = cut-cons firstPiece spelledPiece x xs ∙ ap (λ (p : Piece). p ∷ pieces (pastFront firstPiece spelledPiece x xs)) (here ∙ ap token is)
-        ∙ ap (λ (zs : List ℕ). token (meant t) ∷ pieces zs) past;
+          ∙ ap (λ (zs : List ℕ). token (meant t) ∷ pieces zs) past;
       shorter = w .shorter;
-      told = w .told }
+      told = w .told;
+    }

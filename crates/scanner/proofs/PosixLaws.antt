@@ -63,10 +63,10 @@ replaced-single : (b : ℕ) (bs : List ℕ) → (b ≡ 92 → ⊥) → (b ≡ 91
 unfolding firstMember
 replaced-single b bs n m =
     replaced-cons b bs ∙ ap (λ (p : Member). withProperty p ++ replaced (drop (pred (length (spelledMember p))) bs))
-      (cond-false (eqb b 92) (escapedOr bs b) _ (ne-eqb b 92 n) ∙ go (cases-eq b 91)) where
-  go : (b ≡ 91) ⊎ (b ≡ 91 → ⊥) → cond (eqb b 91) (bracketOr (bracketAt (b ∷ bs)) b) (single b) ≡ single b
-  go (inl e) = cond-true (eqb b 91) _ (single b) (eq-eqb b 91 e) ∙ ap (λ (o : Option PosixClass). bracketOr o b) (m e)
-  go (inr ne) = cond-false (eqb b 91) _ (single b) (ne-eqb b 91 ne)
+    (cond-false (eqb b 92) (escapedOr bs b) _ (ne-eqb b 92 n) ∙ go (cases-eq b 91)) where
+      go : (b ≡ 91) ⊎ (b ≡ 91 → ⊥) → cond (eqb b 91) (bracketOr (bracketAt (b ∷ bs)) b) (single b) ≡ single b
+      go (inl e) = cond-true (eqb b 91) _ (single b) (eq-eqb b 91 e) ∙ ap (λ (o : Option PosixClass). bracketOr o b) (m e)
+      go (inr ne) = cond-false (eqb b 91) _ (single b) (ne-eqb b 91 ne)
 
 -- a bracket that does not stand in a text does not stand in its front either
 starts-taken : (prefix bs : List ℕ) (n : ℕ) → starts prefix bs ≡ false → starts prefix (take n bs) ≡ false
@@ -74,14 +74,14 @@ starts-taken prefix bs n e = go (starts prefix (take n bs)) refl where
   go : (t : Bool) → starts prefix (take n bs) ≡ t → starts prefix (take n bs) ≡ false
   go false is = is
   go true is = absurd (clash (sym e ∙ starts-front prefix bs (drop (length prefix) (take n bs) ++ drop n bs)
-    (sym (take-append-drop n bs) ∙ ap (λ (xs : List ℕ). xs ++ drop n bs) (starts-split prefix (take n bs) is) ∙ append-assoc prefix _ (drop n bs))))
+      (sym (take-append-drop n bs) ∙ ap (λ (xs : List ℕ). xs ++ drop n bs) (starts-split prefix (take n bs) is) ∙ append-assoc prefix _ (drop n bs))))
 
 -- no bracket stands in the front of a text in which none stands
 none-taken : (ps : List PosixClass) (bs : List ℕ) (n : ℕ) → firstOf ps bs ≡ None → firstOf ps (take n bs) ≡ None
 none-taken [] bs n e = refl
 none-taken (p ∷ ps) bs n e = go (starts (bracketOf p) bs) refl e (none-taken ps bs n) where
   go : (t : Bool) → starts (bracketOf p) bs ≡ t → cond t (Some p) (firstOf ps bs) ≡ None → (firstOf ps bs ≡ None → firstOf ps (take n bs) ≡ None) →
-    firstOf (p ∷ ps) (take n bs) ≡ None
+      firstOf (p ∷ ps) (take n bs) ≡ None
   go true is e rest = let z : _≡_ {A = ℕ} 0 1 = cc in absurd (omega arith)
   go false is e rest = cond-false (starts (bracketOf p) (take n bs)) (Some p) (firstOf ps (take n bs)) (starts-taken (bracketOf p) bs n is) ∙ rest e
 
@@ -90,7 +90,7 @@ found-split : (ps : List PosixClass) (bs : List ℕ) (p : PosixClass) → firstO
 found-split [] bs p e = let z : _≡_ {A = ℕ} 0 1 = cc in absurd (omega arith)
 found-split (q ∷ ps) bs p e = go (starts (bracketOf q) bs) refl e (found-split ps bs p) where
   go : (t : Bool) → starts (bracketOf q) bs ≡ t → cond t (Some q) (firstOf ps bs) ≡ Some p → (firstOf ps bs ≡ Some p → bs ≡ bracketOf p ++ drop (length (bracketOf p)) bs) →
-    bs ≡ bracketOf p ++ drop (length (bracketOf p)) bs
+      bs ≡ bracketOf p ++ drop (length (bracketOf p)) bs
   go true is e rest = let same : q ≡ p = cc in subst (λ (r : PosixClass). bs ≡ bracketOf r ++ drop (length (bracketOf r)) bs) same (starts-split (bracketOf q) bs is)
   go false is e rest = rest e
 
@@ -109,7 +109,7 @@ past-opening : (w : ClassWalker) (bs : List ℕ) → isEscaped (w .state) ≡ fa
     classLength w (91 ∷ bs) ≡ suc (classLength (record { state = Inside; negated = w .negated; depth = w .depth + 1; newline = w .newline }) bs)
 past-opening w bs e = go (w .state) e where
   go : (s : ClassState) → isEscaped s ≡ false →
-    cond (inside s && (eqb 91 93 && eqb (w .depth) 0)) 1 (suc (classLength (from s w 91) bs))
+      cond (inside s && (eqb 91 93 && eqb (w .depth) 0)) 1 (suc (classLength (from s w 91) bs))
       ≡ suc (classLength (record { state = Inside; negated = w .negated; depth = w .depth + 1; newline = w .newline }) bs)
   go Start e = refl
   go Negated e = refl
@@ -155,19 +155,20 @@ pub over-bracket : (w : ClassWalker) (bs : List ℕ) (p : PosixClass) → isEsca
 over-bracket w bs p s e =
     let split : bs ≡ bracketOf p ++ drop 9 bs = bracket-split bs p e in
     subst (λ (xs : List ℕ). (restReplaced w xs ≡ propertyOf p ++ restReplaced (passed w) (drop 9 bs)) × (restBehind w xs ≡ restBehind (passed w) (drop 9 bs))) (sym split)
-      (both (drop 9 bs)) where
-  both : (ys : List ℕ) →
-    (restReplaced w (bracketOf p ++ ys) ≡ propertyOf p ++ restReplaced (passed w) ys) × (restBehind w (bracketOf p ++ ys) ≡ restBehind (passed w) ys)
-  both ys =
-    (ap (λ (k : ℕ). replacedFrom (w .state) (take k (bracketOf p ++ ys))) (past-bracket p w ys s)
-      ∙ ap (replacedFrom (w .state)) (cut-bracket p (classLength (passed w) ys) ys .0)
-      ∙ bare-replaced (w .state) _ s ∙ replaced-bracket p (take (classLength (passed w) ys) ys),
-     ap (λ (k : ℕ). drop k (bracketOf p ++ ys)) (past-bracket p w ys s) ∙ cut-bracket p (classLength (passed w) ys) ys .1)
+    (both (drop 9 bs)) where
+      both : (ys : List ℕ) →
+          (restReplaced w (bracketOf p ++ ys) ≡ propertyOf p ++ restReplaced (passed w) ys) × (restBehind w (bracketOf p ++ ys) ≡ restBehind (passed w) ys)
+      both ys = (
+        ap (λ (k : ℕ). replacedFrom (w .state) (take k (bracketOf p ++ ys))) (past-bracket p w ys s)
+            ∙ ap (replacedFrom (w .state)) (cut-bracket p (classLength (passed w) ys) ys .0)
+            ∙ bare-replaced (w .state) _ s ∙ replaced-bracket p (take (classLength (passed w) ys) ys),
+        ap (λ (k : ℕ). drop k (bracketOf p ++ ys)) (past-bracket p w ys s) ∙ cut-bracket p (classLength (passed w) ys) ys .1,
+      )
 
 bare-state : (w : ClassWalker) (b : ℕ) → (b ≡ 92 → ⊥) → isEscaped (bare w b .state) ≡ false
 bare-state w b n = ap (λ (v : ClassWalker). isEscaped (v .state)) (cond-false (eqb b 92) _ _ (ne-eqb b 92 n)) ∙ go (eqb b 91) where
   go : (t : Bool) → isEscaped (cond {A = ClassWalker} t (record { state = Inside; negated = w .negated; depth = w .depth + 1; newline = w .newline })
-    (record { state = Inside; negated = w .negated; depth = w .depth; newline = w .newline }) .state) ≡ false
+      (record { state = Inside; negated = w .negated; depth = w .depth; newline = w .newline }) .state) ≡ false
   go true = refl
   go false = refl
 
@@ -190,17 +191,19 @@ byte-replaced : (s : ClassState) (w : ClassWalker) (b : ℕ) (bs : List ℕ) (n 
 byte-replaced s w b bs n none = go (isEscaped s) refl where
   bareGo : isEscaped s ≡ false → (b ≡ 92) ⊎ (b ≡ 92 → ⊥) → replaced (b ∷ take n bs) ≡ b ∷ replacedFrom (from s w b .state) (take n bs)
   bareGo e (inl is) =
-    subst (λ (c : ℕ). replaced (c ∷ take n bs) ≡ c ∷ replacedFrom (from s w c .state) (take n bs)) (sym is)
+      subst (λ (c : ℕ). replaced (c ∷ take n bs) ≡ c ∷ replacedFrom (from s w c .state) (take n bs)) (sym is)
       (replaced-escape (take n bs) ∙ ap (λ (t : ClassState). 92 ∷ replacedFrom t (take n bs)) (sym (then-escaped s w e)))
   bareGo e (inr ne) =
-    replaced-single b (take n bs) ne
+      replaced-single b (take n bs) ne
       (λ is. none-taken posixClasses (b ∷ bs) (suc n) (sym (cond-true (eqb b 91 && not (isEscaped s)) (bracketAt (b ∷ bs)) None (and-from (eqb b 91) (not (isEscaped s)) (eq-eqb b 91 is) (not-from-false (isEscaped s) e))) ∙ none))
-    ∙ ap (λ (xs : List ℕ). b ∷ xs) (sym (bare-replaced (from s w b .state) (take n bs) (still-bare s w b e ne)))
+      ∙ ap (λ (xs : List ℕ). b ∷ xs) (sym (bare-replaced (from s w b .state) (take n bs) (still-bare s w b e ne)))
+
   escapedGo : (t : ClassState) → isEscaped t ≡ true → replacedFrom t (b ∷ take n bs) ≡ b ∷ replacedFrom (from t w b .state) (take n bs)
   escapedGo Start e = absurd (clash e)
   escapedGo Negated e = absurd (clash e)
   escapedGo Inside e = absurd (clash e)
   escapedGo Escaped e = refl
+
   go : (t : Bool) → isEscaped s ≡ t → replacedFrom s (b ∷ take n bs) ≡ b ∷ replacedFrom (from s w b .state) (take n bs)
   go true e = escapedGo s e
   go false e = bare-replaced s (b ∷ take n bs) e ∙ bareGo e (cases-eq b 92)
@@ -210,32 +213,33 @@ pub over-byte : (w : ClassWalker) (b : ℕ) (bs : List ℕ) → closes w b ≡ f
     (restReplaced w (b ∷ bs) ≡ b ∷ restReplaced (stepped w b) bs) × (restBehind w (b ∷ bs) ≡ restBehind (stepped w b) bs)
 over-byte w b bs goes none =
     let n = classLength (stepped w b) bs in
-    let long : classLength w (b ∷ bs) ≡ suc n = cond-false (closes w b) 1 (suc n) goes in
-    (ap (λ (k : ℕ). replacedFrom (w .state) (take k (b ∷ bs))) long ∙ byte-replaced (w .state) w b bs n none,
-     ap (λ (k : ℕ). drop k (b ∷ bs)) long)
+    let long : classLength w (b ∷ bs) ≡ suc n = cond-false (closes w b) 1 (suc n) goes in (
+      ap (λ (k : ℕ). replacedFrom (w .state) (take k (b ∷ bs))) long ∙ byte-replaced (w .state) w b bs n none,
+      ap (λ (k : ℕ). drop k (b ∷ bs)) long,
+    )
 
 -- over the `]` that closes it
 pub over-closing : (w : ClassWalker) (b : ℕ) (bs : List ℕ) → closes w b ≡ true → (restReplaced w (b ∷ bs) ≡ b ∷ []) × (restBehind w (b ∷ bs) ≡ bs)
 over-closing w b bs shut =
     let long : classLength w (b ∷ bs) ≡ 1 = cond-true (closes w b) 1 (suc (classLength (stepped w b) bs)) shut in
     (ap (λ (k : ℕ). replacedFrom (w .state) (take k (b ∷ bs))) long ∙ go (w .state) shut, ap (λ (k : ℕ). drop k (b ∷ bs)) long) where
-  go : (s : ClassState) → inside s && (eqb b 93 && eqb (w .depth) 0) ≡ true → replacedFrom s (b ∷ []) ≡ b ∷ []
-  go Start e = absurd (clash e)
-  go Negated e = absurd (clash e)
-  go Escaped e = absurd (clash e)
-  go Inside e =
-    let is : b ≡ 93 = eqb-true b 93 (and-parts (eqb b 93) (eqb (w .depth) 0) e .0) in
-    replaced-single b [] (λ h. omega arith) (λ h. absurd (omega arith)) ∙ ap (λ (xs : List ℕ). b ∷ xs) replaced-nil
+      go : (s : ClassState) → inside s && (eqb b 93 && eqb (w .depth) 0) ≡ true → replacedFrom s (b ∷ []) ≡ b ∷ []
+      go Start e = absurd (clash e)
+      go Negated e = absurd (clash e)
+      go Escaped e = absurd (clash e)
+      go Inside e =
+          let is : b ≡ 93 = eqb-true b 93 (and-parts (eqb b 93) (eqb (w .depth) 0) e .0) in
+          replaced-single b [] (λ h. omega arith) (λ h. absurd (omega arith)) ∙ ap (λ (xs : List ℕ). b ∷ xs) replaced-nil
 
 -- nothing is left at the end of the text
 pub rest-nil : (w : ClassWalker) (bs : List ℕ) → bs ≡ [] → (restReplaced w bs ≡ []) × (restBehind w bs ≡ [])
 rest-nil w bs e =
     subst (λ (xs : List ℕ). (restReplaced w xs ≡ []) × (restBehind w xs ≡ [])) (sym e) (go (w .state), refl) where
-  go : (s : ClassState) → replacedFrom s [] ≡ []
-  go Start = replaced-nil
-  go Negated = replaced-nil
-  go Inside = replaced-nil
-  go Escaped = refl
+      go : (s : ClassState) → replacedFrom s [] ≡ []
+      go Start = replaced-nil
+      go Negated = replaced-nil
+      go Inside = replaced-nil
+      go Escaped = refl
 
 -- The class at the front, by the walk from behind its `[`.
 pub class-whole : (xs ys : List ℕ) → front xs ≡ Some 91 → ys ≡ drop 1 xs → classWithProperties (classText xs) ≡ 91 ∷ restReplaced opened ys
@@ -252,18 +256,21 @@ class-heads (x ∷ xs) ys zs p q r =
     let here : first (x ∷ xs) ≡ class (x ∷ take n xs) = cond-false (eqb x 92) _ _ (ne-eqb x 92 (λ h. omega arith)) ∙ cond-true (eqb x 91) _ _ (eq-eqb x 91 e) in
     let left : zs ≡ drop n xs = r ∙ ap (restBehind opened) q in
     let past : pastFront first spelled x xs ≡ zs =
-      ap (λ (u : Token). drop (pred (length (spelled u))) xs) here ∙ drop-least n (length (take n xs)) xs (length-take n xs) ∙ sym left in
-    (cut-cons first spelled x xs ∙ ap (λ (u : Token). u ∷ tokens (pastFront first spelled x xs)) here ∙ ap (λ (us : List ℕ). class (x ∷ take n xs) ∷ tokens us) past,
-     omega (arith, simp length-drop at (ap length left)))
+    ap (λ (u : Token). drop (pred (length (spelled u))) xs) here ∙ drop-least n (length (take n xs)) xs (length-take n xs) ∙ sym left in (
+      cut-cons first spelled x xs ∙ ap (λ (u : Token). u ∷ tokens (pastFront first spelled x xs)) here ∙ ap (λ (us : List ℕ). class (x ∷ take n xs) ∷ tokens us) past,
+      omega (arith, simp length-drop at (ap length left)),
+    )
 
 -- the class is written
 pub class-written : (xs ys after items items₁ items₂ : List ℕ) → front xs ≡ Some 91 → ys ≡ drop 1 xs → items₁ ≡ items ++ 91 ∷ [] →
     Writing items₁ (restReplaced opened ys) items₂ [] → after ≡ restBehind opened ys → Replaced {V = Unit {0}} {E = Unit {0}} (Ok tt) xs after items items₂
 class-written xs ys after items items₁ items₂ p q i w r =
-    let heads = class-heads xs ys after p q r in
-    (heads .0, heads .1,
-     sym (append-nil items₂) ∙ w .same ∙ ap (λ (us : List ℕ). us ++ restReplaced opened ys) i ∙ append-assoc items (91 ∷ []) (restReplaced opened ys)
-      ∙ ap (λ (us : List ℕ). items ++ us) (sym (class-whole xs ys p q)))
+    let heads = class-heads xs ys after p q r in (
+      heads .0,
+      heads .1,
+      sym (append-nil items₂) ∙ w .same ∙ ap (λ (us : List ℕ). us ++ restReplaced opened ys) i ∙ append-assoc items (91 ∷ []) (restReplaced opened ys)
+          ∙ ap (λ (us : List ℕ). items ++ us) (sym (class-whole xs ys p q)),
+    )
 
 -- there is no room for a piece of it
 pub class-refused : {V E : Type 0} (r : Result V E) (xs ys after items items₁ items₂ items₃ left left′ piece : List ℕ) → isErr r ≡ true →
@@ -271,11 +278,12 @@ pub class-refused : {V E : Type 0} (r : Result V E) (xs ys after items items₁ 
     left ≡ piece ++ left′ → 65536 < length items₂ + length piece → items₃ ≡ items₂ → Replaced r xs after items items₃
 class-refused (Ok v) xs ys after items items₁ items₂ items₃ left left′ piece e p q i w l over k = absurd (clash e)
 class-refused (Err x) xs ys after items items₁ items₂ items₃ left left′ piece e p q i w l over k =
-    let long = simp length-append at (ap length i) in
-    (omega (arith, over, long, simp length-append at (ap length l), simp length-append at (ap length (w .same)), ap length (class-whole xs ys p q)),
-     ap (take (length items)) k ∙ sym (take-append-le (length items) items₂ left (omega (arith, long, w .kept))) ∙ ap (take (length items)) (w .same)
-      ∙ ap (λ (us : List ℕ). take (length items) (us ++ restReplaced opened ys)) i
-      ∙ ap (take (length items)) (append-assoc items (91 ∷ []) (restReplaced opened ys)) ∙ take-at items (91 ∷ restReplaced opened ys) (length items) refl)
+    let long = simp length-append at (ap length i) in (
+      omega (arith, over, long, simp length-append at (ap length l), simp length-append at (ap length (w .same)), ap length (class-whole xs ys p q)),
+      ap (take (length items)) k ∙ sym (take-append-le (length items) items₂ left (omega (arith, long, w .kept))) ∙ ap (take (length items)) (w .same)
+          ∙ ap (λ (us : List ℕ). take (length items) (us ++ restReplaced opened ys)) i
+          ∙ ap (take (length items)) (append-assoc items (91 ∷ []) (restReplaced opened ys)) ∙ take-at items (91 ∷ restReplaced opened ys) (length items) refl,
+    )
 
 -- there is no room for its `[`
 pub opening-refused : {V E : Type 0} (r : Result V E) (xs ys after items items₁ : List ℕ) → isErr r ≡ true → front xs ≡ Some 91 → ys ≡ drop 1 xs →
@@ -296,18 +304,20 @@ pub step-bracket : (w v : ClassWalker) (xs ys : List ℕ) (p : PosixClass) → b
     (restReplaced w xs ≡ propertyOf p ++ restReplaced v ys) × (restBehind w xs ≡ restBehind v ys)
 step-bracket w v xs ys p here e q =
     let found = here-bracket w xs p here in
-    let over = over-bracket w xs p (found .0) (found .1) in
-    (over .0 ∙ ap (λ (u : ClassWalker). propertyOf p ++ restReplaced u (drop 9 xs)) (sym e) ∙ ap (λ (zs : List ℕ). propertyOf p ++ restReplaced v zs) (sym q),
-     over .1 ∙ ap (λ (u : ClassWalker). restBehind u (drop 9 xs)) (sym e) ∙ ap (restBehind v) (sym q))
+    let over = over-bracket w xs p (found .0) (found .1) in (
+      over .0 ∙ ap (λ (u : ClassWalker). propertyOf p ++ restReplaced u (drop 9 xs)) (sym e) ∙ ap (λ (zs : List ℕ). propertyOf p ++ restReplaced v zs) (sym q),
+      over .1 ∙ ap (λ (u : ClassWalker). restBehind u (drop 9 xs)) (sym e) ∙ ap (restBehind v) (sym q),
+    )
 
 pub step-byte : (w v : ClassWalker) (xs ys : List ℕ) (b : ℕ) → front xs ≡ Some b → ys ≡ drop 1 xs → closes w b ≡ false → v ≡ stepped w b → bracketHere w xs ≡ None →
     (restReplaced w xs ≡ (b ∷ []) ++ restReplaced v ys) × (restBehind w xs ≡ restBehind v ys)
 step-byte w v [] ys b p q goes e none = let z : _≡_ {A = ℕ} 0 1 = cc in absurd (omega arith)
 step-byte w v (x ∷ xs) ys b p q goes e none =
     let is : x ≡ b = cc in
-    let over = over-byte w x xs (ap (closes w) is ∙ goes) none in
-    (over .0 ∙ ap (λ (c : ℕ). c ∷ restReplaced (stepped w c) xs) is ∙ ap (λ (u : ClassWalker). b ∷ restReplaced u xs) (sym e) ∙ ap (λ (zs : List ℕ). b ∷ restReplaced v zs) (sym q),
-     over .1 ∙ ap (λ (c : ℕ). restBehind (stepped w c) xs) is ∙ ap (λ (u : ClassWalker). restBehind u xs) (sym e) ∙ ap (restBehind v) (sym q))
+    let over = over-byte w x xs (ap (closes w) is ∙ goes) none in (
+      over .0 ∙ ap (λ (c : ℕ). c ∷ restReplaced (stepped w c) xs) is ∙ ap (λ (u : ClassWalker). b ∷ restReplaced u xs) (sym e) ∙ ap (λ (zs : List ℕ). b ∷ restReplaced v zs) (sym q),
+      over .1 ∙ ap (λ (c : ℕ). restBehind (stepped w c) xs) is ∙ ap (λ (u : ClassWalker). restBehind u xs) (sym e) ∙ ap (restBehind v) (sym q),
+    )
 
 pub step-closing : (w : ClassWalker) (xs ys : List ℕ) (b : ℕ) → front xs ≡ Some b → ys ≡ drop 1 xs → closes w b ≡ true →
     (restReplaced w xs ≡ (b ∷ []) ++ []) × (restBehind w xs ≡ ys)
@@ -337,6 +347,7 @@ unfolding first
 same-outside x xs n = go (eqb x 92) (opensComment (x ∷ xs)) (ne-eqb x 91 n) xs where
   shape : Bool → Bool → Bool → List ℕ → Token
   shape s t u ys = cond s (escaping ys) (cond t (class (x ∷ take (classLength opened xs) xs)) (cond u (comment (take (commentLength false (x ∷ xs)) (x ∷ xs))) (plain x)))
+
   go : (s u : Bool) → eqb x 91 ≡ false → (ys : List ℕ) → tokenWithProperties (shape s (eqb x 91) u ys) ≡ spelled (shape s (eqb x 91) u ys)
   go true u e [] = refl
   go true u e (y ∷ ys) = refl
@@ -351,9 +362,10 @@ token-kept r t [] after items items′ b p n w a = let z : _≡_ {A = ℕ} 0 1 =
 token-kept {V = V} {E = E} r t (x ∷ xs) after items items′ b p n w a = go r a where
   same : tokenWithProperties (meant t) ≡ spelled (meant t)
   same =
-    let e : x ≡ b = cc in
-    let is = taken-first t x xs after w .0 in
-    ap tokenWithProperties (sym is) ∙ same-outside x xs (λ h. n (sym e ∙ h)) ∙ ap spelled is
+      let e : x ≡ b = cc in
+      let is = taken-first t x xs after w .0 in
+      ap tokenWithProperties (sym is) ∙ same-outside x xs (λ h. n (sym e ∙ h)) ∙ ap spelled is
+
   go : (r : Result V E) → Appended items (spelled (meant t)) r items′ → ReplacedToken r (x ∷ xs) after items items′
   go (Ok v) a = (meant t, w .heads, w .shorter, a .1 ∙ ap (λ (us : List ℕ). items ++ us) (sym same))
   go (Err y) a = (meant t, tokens after, w .heads, omega (arith, a .0, ap length same), ap (take (length items)) (a .1) ∙ take-all (length items) items (omega arith))

@@ -43,8 +43,9 @@ unfolding first
 honest-first b bs = go (eqb b 92) refl (eqb b 91) (opensComment (b ∷ bs)) where
   shape : Bool → Bool → Bool → Token
   shape s t u = cond s (escaping bs) (cond t (class (b ∷ take (classLength opened bs) bs)) (cond u (comment (take (commentLength false (b ∷ bs)) (b ∷ bs))) (plain b)))
+
   go : (s : Bool) → eqb b 92 ≡ s → (t u : Bool) →
-    spelled (shape s t u) ++ drop (pred (length (spelled (shape s t u)))) bs ≡ b ∷ bs
+      spelled (shape s t u) ++ drop (pred (length (spelled (shape s t u)))) bs ≡ b ∷ bs
   go true e t u = honest-escaping bs ∙ ap (λ (x : ℕ). x ∷ bs) (sym (eqb-true b 92 e))
   go false e true u = honest-taken (classLength opened bs) b bs
   go false e false true = rw (commented b bs .1) (honest-taken (commented b bs .0) b bs)
@@ -55,7 +56,7 @@ pub tokens-joined : (bs : List ℕ) → joined spelled (tokens bs) ≡ bs
 tokens-joined = cut-joined first spelled honest-first
 
 -- nothing is both none and something
-none-some : {A : Type 0} (b : ℕ) → _≡_ {A = Option ℕ} None (Some b) → A
+pub none-some : {A : Type 0} (b : ℕ) → _≡_ {A = Option ℕ} None (Some b) → A
 none-some b e = let z : _≡_ {A = ℕ} 0 1 = cc in absurd (omega arith)
 
 pub taken : (t : Read) (b : ℕ) (bs after : List ℕ) → first (b ∷ bs) ≡ meant t → after ≡ drop (pred (length (spelled (meant t)))) bs → Told t →
@@ -66,7 +67,8 @@ taken t b bs after is left said =
       heads = cut-cons first spelled b bs ∙ ap (λ (u : Token). u ∷ tokens (pastFront first spelled b bs)) is ∙ ap (λ (xs : List ℕ). meant t ∷ tokens xs) past;
       spells = sym (honest-first b bs) ∙ ap (λ (u : Token). spelled u ++ pastFront first spelled b bs) is ∙ ap (λ (xs : List ℕ). spelled (meant t) ++ xs) past;
       shorter = omega (arith, simp length-drop at (ap length left));
-      told = said }
+      told = said;
+    }
 
 pub taken-final : (xs ys : List ℕ) → front xs ≡ Some 92 → ys ≡ drop 1 xs → front ys ≡ None → Taken FinalBackslash xs ys
 unfolding first
@@ -104,11 +106,11 @@ taken-comment (x ∷ xs) ys text p o t q =
     let n = commented x xs .0 in
     let whole : commentLength false (x ∷ xs) ≡ suc n = commented x xs .1 in
     taken (Comment text) x xs ys
-      (cond-false (eqb x 92) _ _ (ne-eqb x 92 (λ h. omega arith)) ∙ cond-false (eqb x 91) _ _ (ne-eqb x 91 (λ h. omega arith))
-        ∙ cond-true (opensComment (x ∷ xs)) _ (plain x) o ∙ ap comment (sym t))
-      (q ∙ ap (λ (k : ℕ). drop k (x ∷ xs)) whole ∙ sym (past-taken n x xs)
-        ∙ ap (λ (k : ℕ). drop (pred (length (take k (x ∷ xs)))) xs) (sym whole) ∙ ap (λ (us : List ℕ). drop (pred (length us)) xs) (sym t))
-      tt
+    (cond-false (eqb x 92) _ _ (ne-eqb x 92 (λ h. omega arith)) ∙ cond-false (eqb x 91) _ _ (ne-eqb x 91 (λ h. omega arith))
+    ∙ cond-true (opensComment (x ∷ xs)) _ (plain x) o ∙ ap comment (sym t))
+    (q ∙ ap (λ (k : ℕ). drop k (x ∷ xs)) whole ∙ sym (past-taken n x xs)
+    ∙ ap (λ (k : ℕ). drop (pred (length (take k (x ∷ xs)))) xs) (sym whole) ∙ ap (λ (us : List ℕ). drop (pred (length us)) xs) (sym t))
+    tt
 
 pub taken-class : (xs ys zs : List ℕ) (n : ℕ) (text : RefT (List ℕ)) (newline : Bool) → front xs ≡ Some 91 → ys ≡ drop 1 xs → n ≡ classLength opened ys →
     text .now ≡ take (n + 1 - 0) xs → zs ≡ drop n ys → newline ≡ newlineIn opened ys → Taken (Class text newline) xs zs
@@ -121,9 +123,9 @@ taken-class (x ∷ xs) ys zs n text newline p q l t r told =
     let many : n + 1 - 0 ≡ suc m = omega (arith, nm) in
     let whole : text .now ≡ x ∷ take m xs = t ∙ ap (λ (k : ℕ). take k (x ∷ xs)) many in
     taken (Class text newline) x xs zs
-      (cond-false (eqb x 92) _ _ (ne-eqb x 92 (λ h. omega arith)) ∙ cond-true (eqb x 91) _ _ (eq-eqb x 91 e) ∙ ap class (sym whole))
-      (r ∙ ap (drop n) q ∙ ap (λ (k : ℕ). drop k xs) nm ∙ sym (past-taken m x xs) ∙ ap (λ (us : List ℕ). drop (pred (length us)) xs) (sym whole))
-      (told ∙ ap (newlineIn opened) q ∙ sym (newline-taken opened xs) ∙ ap matchesNewline (sym whole))
+    (cond-false (eqb x 92) _ _ (ne-eqb x 92 (λ h. omega arith)) ∙ cond-true (eqb x 91) _ _ (eq-eqb x 91 e) ∙ ap class (sym whole))
+    (r ∙ ap (drop n) q ∙ ap (λ (k : ℕ). drop k xs) nm ∙ sym (past-taken m x xs) ∙ ap (λ (us : List ℕ). drop (pred (length us)) xs) (sym whole))
+    (told ∙ ap (newlineIn opened) q ∙ sym (newline-taken opened xs) ∙ ap matchesNewline (sym whole))
 
 pub front-none : (xs : List ℕ) → front xs ≡ None → xs ≡ []
 front-none [] e = refl
@@ -145,9 +147,11 @@ no-tokens bs e = ap tokens e ∙ cut-nil first spelled
 pub taken-first : (t : Read) (x : ℕ) (xs ys : List ℕ) → Taken t (x ∷ xs) ys → (first (x ∷ xs) ≡ meant t) × (ys ≡ pastFront first spelled x xs)
 taken-first t x xs ys w =
     let both : first (x ∷ xs) ∷ tokens (pastFront first spelled x xs) ≡ meant t ∷ tokens ys = sym (cut-cons first spelled x xs) ∙ w .heads in
-    let is : first (x ∷ xs) ≡ meant t = cc in
-    (is, append-cancel-left (spelled (meant t)) ys (pastFront first spelled x xs)
-      (sym (w .spells) ∙ sym (honest-first x xs) ∙ ap (λ (u : Token). spelled u ++ pastFront first spelled x xs) is))
+    let is : first (x ∷ xs) ≡ meant t = cc in (
+      is,
+      append-cancel-left (spelled (meant t)) ys (pastFront first spelled x xs)
+          (sym (w .spells) ∙ sym (honest-first x xs) ∙ ap (λ (u : Token). spelled u ++ pastFront first spelled x xs) is),
+    )
 
 pub front-length : (xs ys : List ℕ) (b : ℕ) → front xs ≡ Some b → ys ≡ drop 1 xs → length xs ≡ length ys + 1
 front-length [] ys b p q = none-some b p

@@ -22,7 +22,8 @@ pub wrote : {A : Type 0} (before whole items left items′ left′ piece : List 
 wrote before whole items left items′ left′ piece w l i =
     record {
       kept = omega (arith, w .kept, simp length-append at (ap length i));
-      same = ap (λ xs. xs ++ left′) i ∙ append-assoc items piece left′ ∙ sym (ap (λ xs. items ++ xs) l) ∙ w .same }
+      same = ap (λ xs. xs ++ left′) i ∙ append-assoc items piece left′ ∙ sym (ap (λ xs. items ++ xs) l) ∙ w .same;
+    }
 
 pub settled : {A : Type 0} (before whole items left left′ : List A) → Writing before whole items left → left ≡ left′ → Writing before whole items left′
 settled before whole items left left′ w e = record { kept = w .kept; same = sym (ap (λ xs. items ++ xs) e) ∙ w .same }
@@ -40,9 +41,10 @@ taken-back n items items′ h e = sym (take-take n (length items) items′ h) �
 pub refused : {A : Type 0} (before whole items left items′ left′ piece : List A) (n : ℕ) → Writing before whole items left →
     left ≡ piece ++ left′ → 65536 < length items + length piece → n ≡ length before → items′ ≡ take n items →
     (65536 < length before + length whole) × (items′ ≡ before)
-refused before whole items left items′ left′ piece n w l over nb i =
-    (omega (arith, over, simp length-append at (ap length l), simp length-append at (ap length (w .same))),
-     i ∙ sym (take-append-le n items left (omega (arith, nb, w .kept))) ∙ ap (take n) (w .same) ∙ take-at before whole n (sym nb))
+refused before whole items left items′ left′ piece n w l over nb i = (
+  omega (arith, over, simp length-append at (ap length l), simp length-append at (ap length (w .same))),
+  i ∙ sym (take-append-le n items left (omega (arith, nb, w .kept))) ∙ ap (take n) (w .same) ∙ take-at before whole n (sym nb),
+)
 
 -- a text that is written in three parts, where there is room for all of it
 pub appended-last : {A V E : Type 0} (before a b c i j after : List A) (r : Result V E) → length before + length (a ++ (b ++ c)) ≤ 65536 →

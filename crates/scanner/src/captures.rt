@@ -67,7 +67,11 @@ impl Opening {
         match self {
             Opening::Last | Opening::Plain => 1,
             Opening::Asked => 2,
-            Opening::Lookahead | Opening::Angled | Opening::Quoted | Opening::Python | Opening::Unnamed => 3,
+            Opening::Lookahead
+            | Opening::Angled
+            | Opening::Quoted
+            | Opening::Python
+            | Opening::Unnamed => 3,
             Opening::Lookbehind => 4,
         }
     }
@@ -91,7 +95,11 @@ fn if_named(behind: &[u8], close: u8) -> Group
 {
     let mut parser = Parser::new(behind);
     parser.advance(2);
-    if is_named(parser, close) { Group::Capturing } else { Group::Other }
+    if is_named(parser, close) {
+        Group::Capturing
+    } else {
+        Group::Other
+    }
 }
 
 /// A name and the byte that closes it stand here.
@@ -215,7 +223,10 @@ fn write_group_numbers(regex: &[u8], out: &mut Buffer<usize>) -> Result<(), TooL
     ensures { λ r. ⌜ Appended (vec-items (now (out .entry) .items)) (validNumbers [] 0 (marks (now (regex .entry)))) r (vec-items (now (out .exit) .items)) ⌝ }
 {
     let before = out.len();
-    let mut numbering = Numbering { number: 0, lookaround_depth: 0 };
+    let mut numbering = Numbering {
+        number: 0,
+        lookaround_depth: 0,
+    };
     let mut parser = Parser::new(regex);
     while let Some(mark) = read_mark(&mut parser) {
         if let Err(refusal) = write_number(numbering.meet(mark), out) {

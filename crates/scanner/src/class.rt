@@ -32,7 +32,12 @@ impl ClassWalker {
     pub(crate) fn new() -> Self
         ensures { λ r. ⌜ r ≡ opened ⌝ }
     {
-        ClassWalker { state: ClassState::Start, negated: false, depth: 0, newline: false }
+        ClassWalker {
+            state: ClassState::Start,
+            negated: false,
+            depth: 0,
+            newline: false,
+        }
     }
 
     /// Goes on by one byte, and says whether it closes the class.
@@ -103,5 +108,8 @@ pub(crate) fn class_extent(behind: &[u8]) -> Extent
             break;
         }
     }
-    Extent { length, matches_newline: walker.newline }
+    Extent {
+        length,
+        matches_newline: walker.newline,
+    }
 }

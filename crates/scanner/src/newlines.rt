@@ -91,16 +91,23 @@ fn write_class_or_end(class: &[u8], out: &mut Buffer<u8>) -> Result<(), TooLong>
 }
 
 /// Writes a piece; `next` is the byte behind it.
-fn write_for_no_newlines(piece: Piece, next: Option<u8>, out: &mut Buffer<u8>) -> Result<(), TooLong>
+fn write_for_no_newlines(
+    piece: Piece,
+    next: Option<u8>,
+    out: &mut Buffer<u8>,
+) -> Result<(), TooLong>
     requires { ⌜ Right piece ⌝ }
     ensures { λ r. ⌜ Appended (vec-items (now (out .entry) .items)) (withoutNewline (meantPiece (piece .entry)) next) r (vec-items (now (out .exit) .items)) ⌝ }
 {
     match piece {
         Piece::OptionalNewline => out.extend(b"(?:$|)"),
         Piece::Token(Token::Escape(b'n')) if !is_repeat(next) => out.push(b'$'),
-        Piece::Token(Token::Class { text, matches_newline: true }) if next != Some(b'?') => {
-            write_class_or_end(text, out)
-        }
+        Piece::Token(
+            Token::Class {
+                text,
+                matches_newline: true,
+            },
+        ) if next != Some(b'?') => { write_class_or_end(text, out) }
         Piece::Token(token) => write_token(token, out),
     }
 }

@@ -16,7 +16,10 @@ pub enum Token<'a> {
     /// a backslash that ends the text
     FinalBackslash,
     /// from a `[` to the `]` that closes it, or to the end of the text
-    Class { text: &'a [u8], matches_newline: bool },
+    Class {
+        text: &'a [u8],
+        matches_newline: bool,
+    },
     /// from a `(?#` to the first `)` that is not escaped, or to the end of the text
     Comment(&'a [u8]),
     /// any other byte
@@ -108,7 +111,10 @@ impl<'a> Parser<'a> {
         self.next();
         let extent = class_extent(self.rest);
         self.advance(extent.length);
-        Token::Class { text: &text[0..extent.length + 1], matches_newline: extent.matches_newline }
+        Token::Class {
+            text: &text[0..extent.length + 1],
+            matches_newline: extent.matches_newline,
+        }
     }
 
     /// Reads the token that stands here; none at the end.

@@ -17,11 +17,11 @@ pub returns-in-Err : need.returns-in-Err
 returns-in-Err c =
     let rest = validNumbers [] 0 (marks (c .args .regex .now)) in
     refused _ (0 ∷ rest) _ rest _ [] rest (c .len-before .result) (begun _ _ rest (c .in-Continue-push .ensures tt .1)) (sym (append-nil rest))
-      (c .in-Err .ensures tt .0) (c .len-before .ensures) (c .truncate .ensures ∙ ap (take (c .len-before .result)) (c .in-Err .ensures tt .1))
+    (c .in-Err .ensures tt .0) (c .len-before .ensures) (c .truncate .ensures ∙ ap (take (c .len-before .result)) (c .in-Err .ensures tt .1))
 
 pub returns : need.returns
 returns c =
     let rest = validNumbers [] 0 (marks (c .args .regex .now)) in
     ended _ (0 ∷ rest) _ []
-      (wrote _ (0 ∷ rest) _ rest _ [] rest (begun _ _ rest (c .in-Continue-push .ensures tt .1)) (sym (append-nil rest)) (c .in-rest .ensures tt .1)) refl
-      (fits (c .write-group-numbers .last .out))
+    (wrote _ (0 ∷ rest) _ rest _ [] rest (begun _ _ rest (c .in-Continue-push .ensures tt .1)) (sym (append-nil rest)) (c .in-rest .ensures tt .1)) refl
+    (fits (c .write-group-numbers .last .out))

@@ -22,15 +22,15 @@ returns-then-byte-close c =
     let i = c .loop-byte .byte-index in
     let b = getD (c .args .text .now) i 0 in
     sym (c .loop-byte .inv ∙ at-drop-more (nameEnds (c .args .close)) (c .args .text .now) i 0 (c .loop-byte-test .taken)
-      ∙ ap (λ (t : Bool). t || (nameByte b && nameEnds (c .args .close) (drop (i + 1) (c .args .text .now)))) (eq-eqb b (c .args .close) (c .if-byte-close .taken)))
+    ∙ ap (λ (t : Bool). t || (nameByte b && nameEnds (c .args .close) (drop (i + 1) (c .args .text .now)))) (eq-eqb b (c .args .close) (c .if-byte-close .taken)))
 
 pub returns-then-not-is-name-byte : need.returns-then-not-is-name-byte
 returns-then-not-is-name-byte c =
     let i = c .loop-byte .byte-index in
     let b = getD (c .args .text .now) i 0 in
     sym (c .loop-byte .inv ∙ at-drop-more (nameEnds (c .args .close)) (c .args .text .now) i 0 (c .loop-byte-test .taken)
-      ∙ ap (λ (t : Bool). t || (nameByte b && nameEnds (c .args .close) (drop (i + 1) (c .args .text .now)))) (ne-eqb b (c .args .close) (c .if-byte-close .left))
-      ∙ ap (λ (t : Bool). t && nameEnds (c .args .close) (drop (i + 1) (c .args .text .now))) (sym (c .if-not-is-name-byte .ensures tt)))
+    ∙ ap (λ (t : Bool). t || (nameByte b && nameEnds (c .args .close) (drop (i + 1) (c .args .text .now)))) (ne-eqb b (c .args .close) (c .if-byte-close .left))
+    ∙ ap (λ (t : Bool). t && nameEnds (c .args .close) (drop (i + 1) (c .args .text .now))) (sym (c .if-not-is-name-byte .ensures tt)))
 
 pub returns : need.returns
 returns c = sym (c .loop-byte .inv ∙ at-drop-all (nameEnds (c .args .close)) (c .args .text .now) (c .loop-byte .byte-index) (c .loop-byte-test .left))

@@ -11,8 +11,8 @@ use Rattle.scanner.proofs.captures.write_group_numbers.Given as given
 -- no more groups are numbered or open than bytes are read
 abbrev pub Inv-loop-mark : given.InvT-loop-mark
 Inv-loop-mark l = (l .numbering .number + length (l .parser .rest .now) ≤ length (l .regex))
-  × (l .numbering .«lookaround_depth» + length (l .parser .rest .now) ≤ length (l .regex))
-  × ((groups : List Bool) × (l .numbering .«lookaround_depth» ≡ lookaroundDepth groups)
+    × (l .numbering .«lookaround_depth» + length (l .parser .rest .now) ≤ length (l .regex))
+    × ((groups : List Bool) × (l .numbering .«lookaround_depth» ≡ lookaroundDepth groups)
     × Writing (vec-items (l .entry .out .items)) (validNumbers [] 0 (marks (l .regex))) (vec-items (l .out .items)) (validNumbers groups (l .numbering .number) (marks (l .parser .rest .now))))
 
 abbrev pub μ-loop-mark : given.MeasureT-loop-mark

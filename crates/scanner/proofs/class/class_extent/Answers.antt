@@ -24,7 +24,8 @@ returns-after-loop-byte c =
     record {
       length = omega (arith, l, c .loop-byte .inv .2);
       within = omega arith;
-      newline = sym (newline-end (c .loop-byte .walker) (c .args .behind .now) (c .loop-byte .byte-index) h) ∙ c .loop-byte .inv .3 }
+      newline = sym (newline-end (c .loop-byte .walker) (c .args .behind .now) (c .loop-byte .byte-index) h) ∙ c .loop-byte .inv .3;
+    }
 
 pub returns-then-step : need.returns-then-step
 returns-then-step c =
@@ -35,4 +36,5 @@ returns-then-step c =
     record {
       length = omega (arith, l, c .loop-byte .inv .2);
       within = omega arith;
-      newline = sym n ∙ c .loop-byte .inv .3 }
+      newline = sym n ∙ c .loop-byte .inv .3;
+    }

@@ -12,4 +12,4 @@ returns-then-eat c =
 pub returns-in-Some : need.returns-in-Some
 returns-in-Some c =
     taken-token (c .in-Some .token) (c .args .parser .now .rest .now) (c .token .last .self .rest .now) (sym (c .if-eat .ensures tt .found))
-      (subst (λ (xs : List ℕ). Taken (c .in-Some .token) xs (c .token .last .self .rest .now)) (c .if-eat .ensures tt .left) (c .in-Some .ensures tt))
+    (subst (λ (xs : List ℕ). Taken (c .in-Some .token) xs (c .token .last .self .rest .now)) (c .if-eat .ensures tt .left) (c .in-Some .ensures tt))

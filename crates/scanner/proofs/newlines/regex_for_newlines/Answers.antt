@@ -16,13 +16,13 @@ loop-token-less c = c .in-Some .ensures tt .shorter
 pub loop-token-again : need.loop-token-again
 loop-token-again c =
     wrote _ _ _ _ _ (joined withNewline (tokens (c .token .last .self .rest .now))) (withNewline (meant (c .in-Some .token))) (c .loop-token .inv)
-      (ap (joined withNewline) (c .in-Some .ensures tt .heads)) (c .in-rest-write-for-newlines .ensures tt .1)
+    (ap (joined withNewline) (c .in-Some .ensures tt .heads)) (c .in-rest-write-for-newlines .ensures tt .1)
 
 pub returns-in-Err : need.returns-in-Err
 returns-in-Err c =
     refused _ _ _ _ _ (joined withNewline (tokens (c .token .last .self .rest .now))) (withNewline (meant (c .in-Some .token))) (c .len-before .result) (c .loop-token .inv)
-      (ap (joined withNewline) (c .in-Some .ensures tt .heads)) (c .in-Err .ensures tt .0)
-      (c .len-before .ensures) (c .truncate .ensures ∙ ap (take (c .len-before .result)) (c .in-Err .ensures tt .1))
+    (ap (joined withNewline) (c .in-Some .ensures tt .heads)) (c .in-Err .ensures tt .0)
+    (c .len-before .ensures) (c .truncate .ensures ∙ ap (take (c .len-before .result)) (c .in-Err .ensures tt .1))
 
 pub returns : need.returns
 returns c = ended _ _ _ _ (c .loop-token .inv) (ap (joined withNewline) (no-tokens _ (c .in-rest .ensures tt .0))) (fits (c .loop-token .out))

@@ -32,7 +32,7 @@ loop-piece-again c =
 pub returns-in-Err : need.returns-in-Err
 returns-in-Err c =
     refused _ _ _ _ _ _ _ (c .len-before .result) (c .loop-piece .inv) (step _ _ _ _ (c .in-Some .ensures tt) (c .peek .ensures)) (c .in-Err .ensures tt .0)
-      (c .len-before .ensures) (c .truncate .ensures ∙ ap (take (c .len-before .result)) (c .in-Err .ensures tt .1))
+    (c .len-before .ensures) (c .truncate .ensures ∙ ap (take (c .len-before .result)) (c .in-Err .ensures tt .1))
 
 pub returns : need.returns
 returns c = ended _ _ _ _ (c .loop-piece .inv) (ap withoutNewlines (no-pieces _ (c .in-rest .ensures tt .0))) (fits (c .loop-piece .out))

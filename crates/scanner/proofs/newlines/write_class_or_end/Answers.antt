@@ -15,4 +15,4 @@ returns-in-Break-extend-2 c =
 pub returns : need.returns
 returns c =
     appended-last _ _ _ _ _ _ _ (c .extend-3 .result) (simp length-append (omega (arith, c .len .ensures, fits (c .args .out .now))))
-      (c .in-Continue-extend .ensures tt .1) (c .in-Continue-extend-2 .ensures tt .1) (c .extend-3 .ensures)
+    (c .in-Continue-extend .ensures tt .1) (c .in-Continue-extend-2 .ensures tt .1) (c .extend-3 .ensures)

@@ -20,10 +20,13 @@ pub loop-byte-again : need.loop-byte-again
 loop-byte-again c =
     let text = c .args .text .now in
     let i = c .loop-byte .byte-index in
-    let h = c .loop-byte-test .taken in
-    (omega arith, elim (c .if-escaped .came) [
-      in-true-rest w ↦ on c (w .escaped-is) (comment-escaped (c .loop-byte .escaped) text i h (w .in-true-rest .is-0))
-    | in-false-rest w ↦ on c (w .escaped-is) (comment-on (c .loop-byte .escaped) text i h (w .in-false-rest .is-0) (λ e. omega arith)) ])
+    let h = c .loop-byte-test .taken in (
+      omega arith,
+      elim (c .if-escaped .came) [
+        | in-true-rest w ↦ on c (w .escaped-is) (comment-escaped (c .loop-byte .escaped) text i h (w .in-true-rest .is-0))
+        | in-false-rest w ↦ on c (w .escaped-is) (comment-on (c .loop-byte .escaped) text i h (w .in-false-rest .is-0) (λ e. omega arith))
+      ],
+    )
 
 pub returns-after-loop-byte : need.returns-after-loop-byte
 returns-after-loop-byte c =

@@ -7,4 +7,4 @@ use Rattle.scanner.proofs.parser.comment_length.Given as given
 
 abbrev pub Inv-loop-byte : given.InvT-loop-byte
 Inv-loop-byte l = (l .length ≡ l .byte-index)
-  × (l .length + commentLength (l .escaped) (drop (l .byte-index) (l .text)) ≡ commentLength false (l .text))
+    × (l .length + commentLength (l .escaped) (drop (l .byte-index) (l .text)) ≡ commentLength false (l .text))

@@ -10,8 +10,8 @@ use Rattle.scanner.proofs.posix.replace_in_class.Given as given
 -- the walk is no deeper than what is written is long
 abbrev pub Inv-loop-byte : given.InvT-loop-byte
 Inv-loop-byte l = (l .walker .depth ≤ length (vec-items (l .out .items)))
-  × Writing (vec-items (l .entry .out .items)) (restReplaced opened (l .entry .parser .rest .now)) (vec-items (l .out .items)) (restReplaced (l .walker) (l .parser .rest .now))
-  × (restBehind (l .walker) (l .parser .rest .now) ≡ restBehind opened (l .entry .parser .rest .now))
+    × Writing (vec-items (l .entry .out .items)) (restReplaced opened (l .entry .parser .rest .now)) (vec-items (l .out .items)) (restReplaced (l .walker) (l .parser .rest .now))
+    × (restBehind (l .walker) (l .parser .rest .now) ≡ restBehind opened (l .entry .parser .rest .now))
 
 abbrev pub μ-loop-byte : given.MeasureT-loop-byte
 μ-loop-byte l = length (l .parser .rest .now)

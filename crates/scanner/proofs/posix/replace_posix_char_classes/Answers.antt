@@ -22,7 +22,7 @@ pub returns-in-Err : need.returns-in-Err
 returns-in-Err c =
     let e = c .in-Err .ensures tt in
     refused _ _ _ _ _ (joined tokenWithProperties (e .1)) (tokenWithProperties (e .0)) (c .len-before .result) (c .loop-byte .inv) (ap (joined tokenWithProperties) (e .2)) (e .3)
-      (c .len-before .ensures) (c .truncate .ensures ∙ taken-back (c .len-before .result) _ _ (omega (arith, c .len-before .ensures, c .loop-byte .inv .kept)) (e .4))
+    (c .len-before .ensures) (c .truncate .ensures ∙ taken-back (c .len-before .result) _ _ (omega (arith, c .len-before .ensures, c .loop-byte .inv .kept)) (e .4))
 
 pub returns : need.returns
 returns c = ended _ _ _ _ (c .loop-byte .inv) (ap (joined tokenWithProperties) (no-tokens _ (front-none _ (sym (c .in-rest .ensures tt))))) (fits (c .loop-byte .out))
