@@ -11,5 +11,6 @@ pub mod Parts
 pub mod Pieces
 pub mod Posix
 pub mod Reads
+pub mod Rewriting
 pub mod Starts
 pub mod Tokens

@@ -8,6 +8,7 @@ mod newlines;
 mod parser;
 mod parts;
 mod posix;
+mod rewriter;
 mod span;
 
 pub use backrefs::Placeholders;
@@ -27,4 +28,5 @@ pub use parts::MatchedParts;
 pub use parts::MatchedPartsSubstituter;
 pub use parts::OutsideLine;
 pub use posix::replace_posix_char_classes;
+pub use rewriter::Rewriter;
 pub use span::Span;

@@ -1,0 +1,37 @@
+ghost use Rattle.std.specs.Of.Vec.{vec-items};
+ghost use Rattle.scanner.specs.Rewriting.{Rewritten};
+use crate::buffer::Buffer;
+use crate::buffer::TooLong;
+use crate::newlines::regex_for_newlines;
+use crate::newlines::regex_for_no_newlines;
+use crate::posix::replace_posix_char_classes;
+use std::alloc::AllocError;
+use std::alloc::Global;
+
+/// Rewrites the patterns of a grammar as a loader does.
+#[derive(Drop)]
+pub struct Rewriter {
+    /// the text between the two steps
+    replaced: Buffer<u8>,
+}
+
+impl Rewriter {
+    pub fn new(heap: Global) -> Result<Self, AllocError>
+    {
+        let replaced = Buffer::new(heap)?;
+        Ok(Rewriter { replaced })
+    }
+
+    /// Appends the pattern with properties in the place of POSIX brackets, for lines with or without a newline at their end.
+    pub fn rewrite(&mut self, regex: &[u8], lines_include_newline: bool, out: &mut Buffer<u8>) -> Result<(), TooLong>
+        ensures { λ r. ⌜ Rewritten «lines_include_newline» (now (regex .entry)) (vec-items (now (out .entry) .items)) r (vec-items (now (out .exit) .items)) ⌝ }
+    {
+        self.replaced.clear();
+        replace_posix_char_classes(regex, &mut self.replaced)?;
+        if lines_include_newline {
+            regex_for_newlines(self.replaced.as_slice(), out)
+        } else {
+            regex_for_no_newlines(self.replaced.as_slice(), out)
+        }
+    }
+}
