@@ -30,7 +30,12 @@ fn write_captures<W: Write>(captures: &[usize], out: &mut W) -> io::Result<()> {
 }
 
 /// Writes the six fields of a pattern.
-fn write_fields<W: Write>(pattern: &[u8], verdict: Verdict, scan: &PatternScan, out: &mut W) -> io::Result<()> {
+fn write_fields<W: Write>(
+    pattern: &[u8],
+    verdict: Verdict,
+    scan: &PatternScan,
+    out: &mut W,
+) -> io::Result<()> {
     out.write_all(pattern)?;
     out.write_all(b"\t")?;
     match verdict {
@@ -40,7 +45,11 @@ fn write_fields<W: Write>(pattern: &[u8], verdict: Verdict, scan: &PatternScan, 
             out.write_all(scan.without_newlines())?;
             out.write_all(b"\t")?;
             write_captures(scan.captures(), out)?;
-            out.write_all(if backrefs { b"\tbackref\tok\n" } else { b"\t-\tok\n" })
+            out.write_all(if backrefs {
+                b"\tbackref\tok\n"
+            } else {
+                b"\t-\tok\n"
+            })
         }
         Verdict::TooLong => out.write_all(b"-\t-\t-\t-\ttoo long\n"),
         Verdict::NotUtf8 => out.write_all(b"-\t-\t-\t-\tnot UTF-8\n"),

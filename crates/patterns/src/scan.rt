@@ -1,5 +1,7 @@
 ghost use mathlib.Core.Path.{_≡_};
+ghost use mathlib.Core.List.{[]};
 ghost use Rattle.std.specs.Of.Vec.{vec-items};
+ghost use Rattle.std.specs.Vec.{made};
 ghost use Rattle.patterns.specs.Scans.{Scanned};
 use scanner::Buffer;
 use scanner::Rewriter;
@@ -27,12 +29,19 @@ pub struct PatternScan {
 }
 
 impl PatternScan {
-    pub fn new(heap: Global) -> Result<Self, AllocError> {
+    pub fn new(heap: Global) -> Result<Self, AllocError>
+        ensures { λ r. ⌜ made r (λ s. (vec-items (s .«with_newlines» .items) ≡ []) × (vec-items (s .«without_newlines» .items) ≡ []) × (vec-items (s .captures .items) ≡ [])) ⌝ }
+    {
         let rewriter = Rewriter::new(heap)?;
         let with_newlines = Buffer::new(heap)?;
         let without_newlines = Buffer::new(heap)?;
         let captures = Buffer::new(heap)?;
-        Ok(PatternScan { rewriter, with_newlines, without_newlines, captures })
+        Ok(PatternScan {
+            rewriter,
+            with_newlines,
+            without_newlines,
+            captures,
+        })
     }
 
     /// Reads one pattern; what was read before is forgotten.
@@ -45,13 +54,17 @@ impl PatternScan {
         if std::str::from_utf8(pattern).is_err() {
             return Verdict::NotUtf8;
         }
-        let with = self.rewriter.rewrite(pattern, true, &mut self.with_newlines);
-        let without = self.rewriter.rewrite(pattern, false, &mut self.without_newlines);
+        let with = self.rewriter
+            .rewrite(pattern, true, &mut self.with_newlines);
+        let without = self.rewriter
+            .rewrite(pattern, false, &mut self.without_newlines);
         let captures = get_consuming_capture_indexes(pattern, &mut self.captures);
         if with.is_err() || without.is_err() || captures.is_err() {
             return Verdict::TooLong;
         }
-        Verdict::Fine { backrefs: has_backrefs(pattern) }
+        Verdict::Fine {
+            backrefs: has_backrefs(pattern),
+        }
     }
 
     pub fn with_newlines(&self) -> &[u8]

@@ -61,7 +61,7 @@ impl<T: Copy> Buffer<T> {
     pub fn push(&mut self, item: T) -> Result<(), TooLong>
         ensures { λ r. ⌜ Appended (vec-items (now (self .entry) .items)) (item ∷ []) r (vec-items (now (self .exit) .items)) ⌝ }
     {
-        if self.items.len() >= LIMIT {
+        if self.len() >= LIMIT {
             return Err(TooLong);
         }
         self.items.push_reserved(item);
@@ -71,7 +71,7 @@ impl<T: Copy> Buffer<T> {
     pub fn extend(&mut self, items: &[T]) -> Result<(), TooLong>
         ensures { λ r. ⌜ Appended (vec-items (now (self .entry) .items)) (now (items .entry)) r (vec-items (now (self .exit) .items)) ⌝ }
     {
-        if items.len() > LIMIT - self.items.len() {
+        if items.len() > LIMIT - self.len() {
             return Err(TooLong);
         }
         match self.items.extend_from_slice(items) {

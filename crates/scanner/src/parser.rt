@@ -40,7 +40,7 @@ impl<'a> Parser<'a> {
     }
 
     /// What is left of the text.
-    pub fn rest(&self) -> &'a [u8]
+    pub(crate) fn rest(&self) -> &'a [u8]
         ensures { λ r. ⌜ now r ≡ now (now (self .entry) .rest) ⌝ }
     {
         self.rest

@@ -1,4 +1,7 @@
+ghost use mathlib.Core.Path.{_≡_};
+ghost use mathlib.Core.List.{[]};
 ghost use Rattle.std.specs.Of.Vec.{vec-items};
+ghost use Rattle.std.specs.Vec.{made};
 ghost use Rattle.scanner.specs.Rewriting.{Rewritten};
 use crate::buffer::Buffer;
 use crate::buffer::TooLong;
@@ -17,13 +20,19 @@ pub struct Rewriter {
 
 impl Rewriter {
     pub fn new(heap: Global) -> Result<Self, AllocError>
+        ensures { λ r. ⌜ made r (λ w. vec-items (w .replaced .items) ≡ []) ⌝ }
     {
         let replaced = Buffer::new(heap)?;
         Ok(Rewriter { replaced })
     }
 
     /// Appends the pattern with properties in the place of POSIX brackets, for lines with or without a newline at their end.
-    pub fn rewrite(&mut self, regex: &[u8], lines_include_newline: bool, out: &mut Buffer<u8>) -> Result<(), TooLong>
+    pub fn rewrite(
+        &mut self,
+        regex: &[u8],
+        lines_include_newline: bool,
+        out: &mut Buffer<u8>,
+    ) -> Result<(), TooLong>
         ensures { λ r. ⌜ Rewritten «lines_include_newline» (now (regex .entry)) (vec-items (now (out .entry) .items)) r (vec-items (now (out .exit) .items)) ⌝ }
     {
         self.replaced.clear();
