@@ -6,9 +6,9 @@ use mathlib.Core.List.{List}
 use Prim.Native.Nat.{ℕ, _<_}
 use lib.ListN.{length}
 use Rattle.std.specs.Text.{Utf8}
-use Rattle.scanner.specs.Backrefs.{hasBackref}
-use Rattle.scanner.specs.Captures.{consumingCaptures}
-use Rattle.scanner.specs.Posix.{withProperties}
+use Rattle.backrefs.specs.Backrefs.{hasBackref}
+use Rattle.groups.specs.Captures.{consumingCaptures}
+use Rattle.tokens.specs.Posix.{withProperties}
 use Rattle.scanner.specs.Rewriting.{rewritten}
 use Rattle.patterns.specs.declared.scan.Verdict.{Verdict}
 use Rattle.patterns.specs.declared.scan.Verdict.the-variants.{Fine, TooLong, NotUtf8}

@@ -1,16 +1,2 @@
-pub mod Appends
-pub mod Backrefs
-pub mod Captures
-pub mod Classes
-pub mod Cursor
-pub mod Cut
-pub mod Marks
-pub mod Newlines
-pub mod Pairs
-pub mod Parts
-pub mod Pieces
-pub mod Posix
-pub mod Reads
+pub mod Laws
 pub mod Rewriting
-pub mod Starts
-pub mod Tokens

@@ -7,8 +7,8 @@ use Prim.Native.Nat.{ℕ, _+_, _≤_, _<_}
 use lib.ListN.{length}
 use Rattle.std.specs.declared.result.Result.{Result}
 use Rattle.std.specs.declared.result.Result.the-variants.{Ok, Err}
-use Rattle.scanner.specs.Newlines.{forNewlines, forNoNewlines}
-use Rattle.scanner.specs.Posix.{withProperties}
+use Rattle.newlines.specs.Newlines.{forNewlines, forNoNewlines}
+use Rattle.tokens.specs.Posix.{withProperties}
 
 abbrev pub rewritten : Bool → List ℕ → List ℕ
 rewritten newlines bs = cond newlines (forNewlines (withProperties bs)) (forNoNewlines (withProperties bs))

@@ -2,14 +2,15 @@ ghost use mathlib.Core.Path.{_≡_};
 ghost use mathlib.Core.List.{[]};
 ghost use Rattle.std.specs.Of.Vec.{vec-items};
 ghost use Rattle.std.specs.Vec.{made};
+ghost use Rattle.scanner.specs.Laws.{RewritingLaws};
 ghost use Rattle.scanner.specs.Rewriting.{Rewritten};
-use crate::buffer::Buffer;
-use crate::buffer::TooLong;
-use crate::newlines::regex_for_newlines;
-use crate::newlines::regex_for_no_newlines;
-use crate::posix::replace_posix_char_classes;
+use buffer::Buffer;
+use buffer::TooLong;
+use newlines::regex_for_newlines;
+use newlines::regex_for_no_newlines;
 use std::alloc::AllocError;
 use std::alloc::Global;
+use tokens::replace_posix_char_classes;
 
 /// Rewrites the patterns of a grammar as a loader does.
 #[derive(Drop)]
@@ -33,7 +34,8 @@ impl Rewriter {
         lines_include_newline: bool,
         out: &mut Buffer<u8>,
     ) -> Result<(), TooLong>
-        ensures { λ r. ⌜ Rewritten «lines_include_newline» (now (regex .entry)) (vec-items (now (out .entry) .items)) r (vec-items (now (out .exit) .items)) ⌝ }
+        ensures text { λ r. ⌜ Rewritten «lines_include_newline» (now (regex .entry)) (vec-items (now (out .entry) .items)) r (vec-items (now (out .exit) .items)) ⌝ }
+        ensures laws { λ _. ⌜ RewritingLaws ⌝ }
     {
         self.replaced.clear();
         replace_posix_char_classes(regex, &mut self.replaced)?;

@@ -1,0 +1,3 @@
+pub mod Backrefs
+pub mod Pairs
+pub mod Parts

@@ -1,7 +1,0 @@
-use mathlib.Core.Path.{sym, ap, _∙_}
-use Rattle.scanner.specs.Backrefs.{anyBackref}
-use Rattle.scanner.proofs.Pairs.{no-pairs}
-use Rattle.scanner.proofs.backrefs.has_backrefs.Needs as need
-
-pub returns : need.returns
-returns c = sym (c .loop-pair .inv ∙ ap anyBackref (no-pairs _ (c .in-rest .ensures tt .0)))

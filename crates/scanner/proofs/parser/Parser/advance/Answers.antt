@@ -1,6 +1,0 @@
-use borrow.Author.Needs.{needs}
-use Rattle.scanner.proofs.Lists.{take-least, drop-least}
-use Rattle.scanner.proofs.parser.Parser.advance.Needs as need
-
-pub returns : need.returns
-returns c = search (needs, take-least, drop-least)
