@@ -47,7 +47,8 @@ impl<'a> Parser<'a> {
     pub fn rest(&self) -> &'a [u8]
         ensures { λ r. ⌜ now r ≡ now (now (self .entry) .rest) ⌝ }
     {
-        self.rest
+        let Parser { rest } = *self;
+        rest
     }
 
     /// The next byte, which stays.
