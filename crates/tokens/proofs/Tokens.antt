@@ -11,7 +11,7 @@ use denote.Ref.{RefT, now}
 use Rattle.std.specs.Joined.{joined}
 use Rattle.std.specs.declared.option.Option.{Option}
 use Rattle.std.proofs.shelf.Lists.{append-cancel-left}
-use Rattle.std.proofs.shelf.Tests.{eqb-true, eq-eqb, ne-eqb, cond-true, cond-false, and-left}
+use Rattle.std.proofs.shelf.Tests.{eqb-true, eq-eqb, ne-eqb, cond-true, cond-false, and-left, cases-eq}
 use Rattle.std.specs.declared.option.Option.the-variants.{Some, None}
 use Rattle.tokens.specs.declared.parser.Token.{Token as Read}
 use Rattle.tokens.specs.declared.parser.Token.the-variants.{Escape, FinalBackslash, Class, Comment, Plain}
@@ -86,10 +86,10 @@ taken-escape (b ∷ d ∷ bs) ys zs c p q r s =
     let g : d ≡ c = cc in
     taken (Escape c) b (d ∷ bs) zs (rw (eq-eqb b 92 e) (ap escape g)) (s ∙ ap (drop 1) q) tt
 
-pub taken-plain : (xs ys : List ℕ) (b : ℕ) → front xs ≡ Some b → (b ≡ 92 → ⊥) → (b ≡ 91 → ⊥) → opensComment xs ≡ false → ys ≡ drop 1 xs → Taken (Plain b) xs ys
+taken-bare : (xs ys : List ℕ) (b : ℕ) → front xs ≡ Some b → (b ≡ 92 → ⊥) → (b ≡ 91 → ⊥) → opensComment xs ≡ false → ys ≡ drop 1 xs → Taken (Plain b) xs ys
 unfolding first
-taken-plain [] ys b p n m o q = none-some b p
-taken-plain (x ∷ xs) ys b p n m o q =
+taken-bare [] ys b p n m o q = none-some b p
+taken-bare (x ∷ xs) ys b p n m o q =
     let e : x ≡ b = cc in
     taken (Plain b) x xs ys (rw (ne-eqb x 92 (λ h. n (sym e ∙ h)), ne-eqb x 91 (λ h. m (sym e ∙ h))) (cond-false (opensComment (x ∷ xs)) _ (plain x) o ∙ ap plain e)) q tt
 
@@ -159,3 +159,7 @@ front-length (x ∷ xs) ys b p q = omega (arith, ap length q)
 
 pub no-front : (xs : List ℕ) (b : ℕ) → front xs ≡ Some b → xs ≡ [] → ⊥
 no-front xs b p e = none-some b (sym (ap front e) ∙ p)
+
+pub taken-plain : (xs ys : List ℕ) (b : ℕ) → front xs ≡ Some b → (b ≡ 92 → ⊥) → (b ≡ 91 → ⊥) → (b ≡ 40 → opensComment xs ≡ false) → ys ≡ drop 1 xs → Taken (Plain b) xs ys
+taken-plain xs ys b p n m o q =
+    taken-bare xs ys b p n m (⊎-elim o (not-comment xs b p) (cases-eq b 40)) q

@@ -1,7 +1,7 @@
 ghost use mathlib.Core.Path.{_≡_};
 ghost use lib.ListN.{length, take, drop};
 ghost use Rattle.tokens.specs.Cursor.{front};
-ghost use mathlib.Core.Bool.{cond, false};
+ghost use mathlib.Core.Bool.{cond, false, true};
 ghost use Rattle.std.specs.declared.option.Option.the-variants.{Some};
 ghost use Rattle.std.specs.Of.Vec.{vec-items};
 ghost use Rattle.buffer.specs.Appends.{Appended};
@@ -65,9 +65,7 @@ impl<'a> Parser<'a> {
     pub fn next(&mut self)
         ensures { λ _. ⌜ now (now (self .exit) .rest) ≡ drop 1 (now (now (self .entry) .rest)) ⌝ }
     {
-        if let [_, rest @ ..] = self.rest {
-            self.rest = rest;
-        }
+        self.advance(1);
     }
 
     /// Goes on by `n` bytes, and gives them; fewer where the text ends.
@@ -122,6 +120,38 @@ impl<'a> Parser<'a> {
         }
     }
 
+    /// Reads the escape whose backslash stands here, or that backslash if it ends the text.
+    fn escape(&mut self) -> Token<'a>
+        requires { ⌜ front (now (now self .rest)) ≡ Some 92 ⌝ }
+        ensures { λ r. ⌜ Taken r (now (now (self .entry) .rest)) (now (now (self .exit) .rest)) ⌝ }
+    {
+        self.next();
+        let Some(escaped) = self.peek() else {
+            return Token::FinalBackslash;
+        };
+        self.next();
+        Token::Escape(escaped)
+    }
+
+    /// Reads the comment that opens here.
+    fn comment(&mut self) -> Token<'a>
+        requires { ⌜ front (now (now self .rest)) ≡ Some 40 ⌝ ∗ ⌜ opensComment (now (now self .rest)) ≡ true ⌝ }
+        ensures { λ r. ⌜ Taken r (now (now (self .entry) .rest)) (now (now (self .exit) .rest)) ⌝ }
+    {
+        let length = comment_length(self.rest);
+        Token::Comment(self.advance(length))
+    }
+
+    /// Reads the byte that stands here, which begins no other token.
+    fn plain(&mut self, byte: u8) -> Token<'a>
+        requires { ⌜ front (now (now self .rest)) ≡ Some byte ⌝ }
+        requires { ⌜ (byte ≡ 92 → ⊥) ⌝ ∗ ⌜ (byte ≡ 91 → ⊥) ⌝ ∗ ⌜ (byte ≡ 40 → opensComment (now (now self .rest)) ≡ false) ⌝ }
+        ensures { λ r. ⌜ Taken r (now (now (self .entry) .rest)) (now (now (self .exit) .rest)) ⌝ }
+    {
+        self.next();
+        Token::Plain(byte)
+    }
+
     /// Reads the token that stands here; none at the end.
     pub fn token(&mut self) -> Option<Token<'a>>
         ensures { λ r. ⌜ Next r (now (now (self .entry) .rest)) (now (now (self .exit) .rest)) ⌝ }
@@ -130,23 +160,10 @@ impl<'a> Parser<'a> {
             return None;
         };
         match byte {
-            b'\\' => {
-                self.next();
-                let Some(escaped) = self.peek() else {
-                    return Some(Token::FinalBackslash);
-                };
-                self.next();
-                Some(Token::Escape(escaped))
-            }
+            b'\\' => Some(self.escape()),
             b'[' => Some(self.parse_character_class()),
-            b'(' if self.opens_comment() => {
-                let length = comment_length(self.rest);
-                Some(Token::Comment(self.advance(length)))
-            }
-            _ => {
-                self.next();
-                Some(Token::Plain(byte))
-            }
+            b'(' if self.opens_comment() => Some(self.comment()),
+            _ => Some(self.plain(byte)),
         }
     }
 }

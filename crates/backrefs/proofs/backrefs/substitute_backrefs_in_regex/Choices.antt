@@ -6,7 +6,7 @@ use Rattle.backrefs.proofs.backrefs.substitute_backrefs_in_regex.Given as give
 
 abbrev pub Inv-loop-pair : given.InvT-loop-pair
 Inv-loop-pair g l = Writing (vec-items (l .entry .out .items)) (substituted (g .S·Substituter .part (l .substituter)) (l .regex)) (vec-items (l .out .items))
-    (substituted (g .S·Substituter .part (l .substituter)) (l .parser .rest .now))
+    (substituted (g .S·Substituter .part (l .substituter)) (l .pairs .rest .now))
 
 abbrev pub μ-loop-pair : given.MeasureT-loop-pair
-μ-loop-pair g l = length (l .parser .rest .now)
+μ-loop-pair g l = length (l .pairs .rest .now)

@@ -8,7 +8,7 @@ use Rattle.buffer.proofs.Writes.{Writing}
 use Rattle.newlines.proofs.newlines.regex_for_newlines.Given as given
 
 abbrev pub Inv-loop-token : given.InvT-loop-token
-Inv-loop-token l = Writing (vec-items (l .entry .out .items)) (forNewlines (l .regex)) (vec-items (l .out .items)) (joined withNewline (tokens (l .parser .rest .now)))
+Inv-loop-token l = Writing (vec-items (l .entry .out .items)) (forNewlines (l .regex)) (vec-items (l .out .items)) (joined withNewline (tokens (l .tokens .rest .now)))
 
 abbrev pub μ-loop-token : given.MeasureT-loop-token
-μ-loop-token l = length (l .parser .rest .now)
+μ-loop-token l = length (l .tokens .rest .now)

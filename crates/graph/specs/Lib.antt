@@ -1,0 +1,5 @@
+pub mod Chains
+pub mod Laws
+pub mod Reached
+pub mod Spreading
+pub mod Verdict
