@@ -1,0 +1,5 @@
+pub mod Checked
+pub mod Limits
+pub mod Meaning
+pub mod Questions
+pub mod Values

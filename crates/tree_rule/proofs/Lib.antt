@@ -1,0 +1,5 @@
+pub mod Apart
+pub mod Nesting
+pub mod Refused
+pub mod Turns
+pub mod Walks
