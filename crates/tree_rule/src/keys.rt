@@ -20,6 +20,15 @@ fn bytes_of<'a>(node: RawNode, text: &'a [u8]) -> &'a [u8]
     &text[start..start + node.length as usize]
 }
 
+/// Two strings have the same bytes.
+fn is_same_text(a: RawNode, b: RawNode, text: &[u8]) -> bool
+    requires { ⌜ (a .kind ≡ 3) × (b .kind ≡ 3) ⌝ }
+    requires { ⌜ Lies a (now text) × Lies b (now text) ⌝ }
+    ensures { λ r. ⌜ Decides r (bytes a (now (text .entry)) ≡ bytes b (now (text .entry))) ⌝ }
+{
+    bytes_of(a, text) == bytes_of(b, text)
+}
+
 /// Both keys are strings, or both integers, and they are equal.
 fn is_equal(nodes: &[RawNode], text: &[u8], key: usize, other: usize) -> bool
     requires { ⌜ key < length (now nodes) ⌝ }
@@ -30,7 +39,7 @@ fn is_equal(nodes: &[RawNode], text: &[u8], key: usize, other: usize) -> bool
     let a = nodes[key];
     let b = nodes[other];
     if a.kind == 3 && b.kind == 3 {
-        return bytes_of(a, text) == bytes_of(b, text);
+        return is_same_text(a, b, text);
     }
     a.kind == 2 && b.kind == 2 && a.number == b.number
 }
