@@ -1,5 +1,7 @@
 //! Finds the backreferences of a pattern, and puts texts in their place.
 
+#![tactic(auto)]
+
 mod backrefs;
 mod parts;
 mod span;

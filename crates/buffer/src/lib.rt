@@ -1,5 +1,7 @@
 //! A buffer whose memory is had when it is made, and whose length has a limit.
 
+#![tactic(auto)]
+
 ghost use Rattle.std.specs.Prelude.{◌≡◌, ◌≤◌, [], ◌∷◌, length, take, IfOk, vec_len, vec_capacity};
 ghost use Rattle.buffer.specs.Appends.{Appended};
 

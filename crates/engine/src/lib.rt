@@ -1,5 +1,7 @@
 //! What a regular-expression engine is, and the engine that looks at brackets.
 
+#![tactic(auto)]
+
 mod bracket;
 mod engine;
 

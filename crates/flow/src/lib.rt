@@ -1,5 +1,7 @@
 //! Reads documents in the flow form of YAML into nodes and text.
 
+#![tactic(auto)]
+
 mod arrays;
 mod misread;
 mod reader;

@@ -1,5 +1,7 @@
 //! Marks the places of a graph that are reached from the places that are marked at the start.
 
+#![tactic(auto)]
+
 mod chains;
 mod graph;
 mod laws;

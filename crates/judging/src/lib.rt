@@ -1,5 +1,7 @@
 //! What can be done with any engine: judging lists of texts, and recording verdicts for an engine that answers from the record.
 
+#![tactic(auto)]
+
 mod judging;
 mod range;
 mod recorded;

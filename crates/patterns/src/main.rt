@@ -1,5 +1,7 @@
 //! Reads patterns from standard input, one a line, and writes what the scanner makes of each.
 
+#![tactic(auto)]
+
 mod scan;
 
 use scan::{PatternScan, Verdict};

@@ -1,5 +1,7 @@
 //! What a loader and an editor need of the text of one regular expression, in one place.
 
+#![tactic(auto)]
+
 mod rewriter;
 
 pub use backrefs::{

@@ -1,5 +1,7 @@
 //! Reads documents in the flow form of YAML from standard input, parted by lines `---`, and shows the tree of each.
 
+#![tactic(auto)]
+
 ghost use Rattle.std.specs.Prelude.{◌≡◌, ℕ, ◌+◌, ◌<◌, ◌≤◌, true, false, length, take, drop, codes, count_by};
 ghost use Rattle.std.specs.Str.{bytes_eq};
 ghost use Rattle.show_tree.specs.Lines.{is_line_feed, is_line_start, is_mark};

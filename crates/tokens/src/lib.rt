@@ -1,5 +1,7 @@
 //! Reads the text of one regular expression token by token.
 
+#![tactic(auto)]
+
 mod class;
 mod parser;
 mod posix;

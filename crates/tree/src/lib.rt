@@ -1,5 +1,7 @@
 //! Trees of a YAML reader: from nodes and text that nobody vouches for to a tree that is right by its type.
 
+#![tactic(auto)]
+
 mod checking;
 mod questions;
 mod tree;

@@ -1,5 +1,7 @@
 //! The rule of a tree: what nodes and text have to be, decided for nodes and text that nobody vouches for.
 
+#![tactic(auto)]
+
 mod keys;
 mod node;
 mod refusal;
