@@ -39,8 +39,8 @@ EXCEPT = {
 }
 
 
-# declared by a `deriving .. as`
-ALSO = {"value-discrete"}
+# declared by a `deriving .. as`, and the ghost members of a trait
+ALSO = {"value-discrete", "placeCount", "pairCount", "pairAt"}
 
 
 def is_old(name):

@@ -9,11 +9,11 @@ pub struct Chain {
 }
 
 impl Graph for Chain {
-    ghost placeCount = { λ s. s.places };
+    ghost place_count = { λ s. s.places };
 
-    ghost pairCount = { λ s. s.places - 1 };
+    ghost pair_count = { λ s. s.places - 1 };
 
-    ghost pairAt = { λ s n. (if nat_lt (n + 1) s.places then Some (s.places - 2 - n, s.places - 1 - n) else None) };
+    ghost pair_at = { λ s n. (if nat_lt (n + 1) s.places then Some (s.places - 2 - n, s.places - 1 - n) else None) };
 
     fn places(&self) -> usize {
         self.places
@@ -39,11 +39,11 @@ pub struct Dense {
 }
 
 impl Graph for Dense {
-    ghost placeCount = { λ s. s.places };
+    ghost place_count = { λ s. s.places };
 
-    ghost pairCount = { λ s. s.places * s.places };
+    ghost pair_count = { λ s. s.places * s.places };
 
-    ghost pairAt = { λ s n. (if nat_lt 0 s.places then Some (n / s.places, n % s.places) else None) };
+    ghost pair_at = { λ s n. (if nat_lt 0 s.places then Some (n / s.places, n % s.places) else None) };
 
     fn places(&self) -> usize {
         self.places as usize

@@ -18,7 +18,7 @@ pub(crate) fn pair_in_range<G: Graph>(
     places: usize,
     number: usize,
 ) -> Option<(usize, usize)>
-    ensures { result ≡ in_range places (pairAt graph.now number) }
+    ensures { result ≡ in_range places (G.pair_at graph.now number) }
 {
     match graph.pair(number) {
         Some((from, to)) if from < places && to < places => Some((from, to)),
@@ -29,9 +29,9 @@ pub(crate) fn pair_in_range<G: Graph>(
 impl Chains {
     /// Chains one more pair.
     fn add<G: Graph>(&mut self, graph: &G, places: usize, number: usize)
-        requires chained { Chained places (pairAt graph.now) number self.old.heads.items self.old.nexts.items }
+        requires chained { Chained places (G.pair_at graph.now) number self.old.heads.items self.old.nexts.items }
         requires room { vec_len self.old.nexts < vec_capacity self.old.nexts }
-        ensures chained { Chained places (pairAt graph.now) (number + 1) self.new.heads.items self.new.nexts.items }
+        ensures chained { Chained places (G.pair_at graph.now) (number + 1) self.new.heads.items self.new.nexts.items }
         ensures heads_room { vec_capacity self.old.heads ≤ vec_capacity self.new.heads }
         ensures nexts_room { vec_capacity self.old.nexts ≤ vec_capacity self.new.nexts }
     {
@@ -47,7 +47,7 @@ impl Chains {
     pub(crate) fn chain<G: Graph>(&mut self, graph: &G, places: usize, pairs: usize)
         requires heads { places ≤ vec_capacity self.old.heads }
         requires nexts { pairs ≤ vec_capacity self.old.nexts }
-        ensures chained { Chained places (pairAt graph.now) pairs self.new.heads.items self.new.nexts.items }
+        ensures chained { Chained places (G.pair_at graph.now) pairs self.new.heads.items self.new.nexts.items }
         ensures heads_room { vec_capacity self.old.heads ≤ vec_capacity self.new.heads }
         ensures nexts_room { vec_capacity self.old.nexts ≤ vec_capacity self.new.nexts }
     {

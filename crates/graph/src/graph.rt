@@ -4,19 +4,19 @@ ghost use Rattle.std.specs.Prelude.{◌≡◌, ℕ, Option};
 ///
 /// What is asked is answered the same each time.
 pub trait Graph {
-    ghost placeCount: { Self → ℕ };
+    ghost place_count: { Self → ℕ };
 
-    ghost pairCount: { Self → ℕ };
+    ghost pair_count: { Self → ℕ };
 
-    ghost pairAt: { Self → ℕ → Option (ℕ × ℕ) };
+    ghost pair_at: { Self → ℕ → Option (ℕ × ℕ) };
 
     fn places(&self) -> usize
-        ensures { result ≡ placeCount self.now };
+        ensures { result ≡ place_count self.now };
 
     fn pairs(&self) -> usize
-        ensures { result ≡ pairCount self.now };
+        ensures { result ≡ pair_count self.now };
 
     /// The places that the pair goes from and to, or none.
     fn pair(&self, number: usize) -> Option<(usize, usize)>
-        ensures { result ≡ pairAt self.now number };
+        ensures { result ≡ pair_at self.now number };
 }

@@ -40,14 +40,14 @@ fn enqueue_marked(marks: &[bool], queue: &mut Vec<usize>)
 
 /// Marks the place that a pair leads to, if the pair counts.
 fn spread_pair<G: Graph>(graph: &G, number: usize, marks: &mut [bool], queue: &mut Vec<usize>)
-    requires counted { number < pairCount graph.now }
-    requires from { (i : ℕ) → goes_from (in_range (placeCount graph.now) (pairAt graph.now number)) i ≡ true → Marked marks.old i }
-    requires long { length marks.old ≡ placeCount graph.now }
+    requires counted { number < G.pair_count graph.now }
+    requires from { (i : ℕ) → goes_from (in_range (G.place_count graph.now) (G.pair_at graph.now number)) i ≡ true → Marked marks.old i }
+    requires long { length marks.old ≡ G.place_count graph.now }
     requires lined { Lined marks.old queue.old.items }
-    requires room { placeCount graph.now ≤ vec_capacity queue.old }
-    ensures spreads { Spreading (placeCount graph.now) (pairCount graph.now) (pairAt graph.now) marks.old marks.new queue.new.items }
+    requires room { G.place_count graph.now ≤ vec_capacity queue.old }
+    ensures spreads { Spreading (G.place_count graph.now) (G.pair_count graph.now) (G.pair_at graph.now) marks.old marks.new queue.new.items }
     ensures grows { Grown marks.old queue.old.items marks.new queue.new.items }
-    ensures leads { (i k : ℕ) → in_range (placeCount graph.now) (pairAt graph.now number) ≡ Some (i, k) → Marked marks.new k }
+    ensures leads { (i k : ℕ) → in_range (G.place_count graph.now) (G.pair_at graph.now number) ≡ Some (i, k) → Marked marks.new k }
     ensures room { vec_capacity queue.old ≤ vec_capacity queue.new }
 {
     if let Some((_, to)) = pair_in_range(graph, marks.len(), number) {
@@ -64,13 +64,13 @@ fn spread<G: Graph>(
     queue: &mut Vec<usize>,
 )
     requires marked { Marked marks.old place }
-    requires chained { Chained (placeCount graph.now) (pairAt graph.now) (pairCount graph.now) chains.now.heads.items chains.now.nexts.items }
-    requires long { length marks.old ≡ placeCount graph.now }
+    requires chained { Chained (G.place_count graph.now) (G.pair_at graph.now) (G.pair_count graph.now) chains.now.heads.items chains.now.nexts.items }
+    requires long { length marks.old ≡ G.place_count graph.now }
     requires lined { Lined marks.old queue.old.items }
-    requires room { placeCount graph.now ≤ vec_capacity queue.old }
-    ensures spreads { Spreading (placeCount graph.now) (pairCount graph.now) (pairAt graph.now) marks.old marks.new queue.new.items }
+    requires room { G.place_count graph.now ≤ vec_capacity queue.old }
+    ensures spreads { Spreading (G.place_count graph.now) (G.pair_count graph.now) (G.pair_at graph.now) marks.old marks.new queue.new.items }
     ensures grows { Grown marks.old queue.old.items marks.new queue.new.items }
-    ensures leads { Spread (placeCount graph.now) (pairCount graph.now) (pairAt graph.now) marks.new place }
+    ensures leads { Spread (G.place_count graph.now) (G.pair_count graph.now) (G.pair_at graph.now) marks.new place }
     ensures room { vec_capacity queue.old ≤ vec_capacity queue.new }
 {
     let mut next = chains.heads[place];
@@ -82,11 +82,11 @@ fn spread<G: Graph>(
 
 /// Lets every queued place spread its mark, and those that are queued by that.
 fn spread_all<G: Graph>(graph: &G, chains: &Chains, marks: &mut [bool], queue: &mut Vec<usize>)
-    requires chained { Chained (placeCount graph.now) (pairAt graph.now) (pairCount graph.now) chains.now.heads.items chains.now.nexts.items }
-    requires long { length marks.old ≡ placeCount graph.now }
+    requires chained { Chained (G.place_count graph.now) (G.pair_at graph.now) (G.pair_count graph.now) chains.now.heads.items chains.now.nexts.items }
+    requires long { length marks.old ≡ G.place_count graph.now }
     requires lined { Lined marks.old queue.old.items }
-    requires room { placeCount graph.now ≤ vec_capacity queue.old }
-    ensures marking { Marking (placeCount graph.now) (pairCount graph.now) (pairAt graph.now) marks.old marks.new }
+    requires room { G.place_count graph.now ≤ vec_capacity queue.old }
+    ensures marking { Marking (G.place_count graph.now) (G.pair_count graph.now) (G.pair_at graph.now) marks.old marks.new }
     ensures room { vec_capacity queue.old ≤ vec_capacity queue.new }
 {
     let mut done = 0;
@@ -107,8 +107,8 @@ pub enum Refusal {
 
 /// Marks the places that pairs lead to, one after another, from the places that are marked.
 pub fn mark<G: Graph>(graph: &G, marks: &mut [bool], work: &mut Workspace) -> Result<(), Refusal>
-    ensures verdict { result ≡ verdict (length marks.old) (placeCount graph.now) (pairCount graph.now) work.old.places work.old.pairs }
-    ensures marking { result ≡ Ok tt → Marking (placeCount graph.now) (pairCount graph.now) (pairAt graph.now) marks.old marks.new }
+    ensures verdict { result ≡ verdict (length marks.old) (G.place_count graph.now) (G.pair_count graph.now) work.old.places work.old.pairs }
+    ensures marking { result ≡ Ok tt → Marking (G.place_count graph.now) (G.pair_count graph.now) (G.pair_at graph.now) marks.old marks.new }
     ensures refused { is_ok result ≡ false → marks.new ≡ marks.old }
     ensures places { work.new.places ≡ work.old.places }
     ensures pairs { work.new.pairs ≡ work.old.pairs }

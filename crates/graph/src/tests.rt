@@ -13,11 +13,11 @@ struct Listed<'a> {
 }
 
 impl Graph for Listed<'_> {
-    ghost placeCount = { λ s. s.places };
+    ghost place_count = { λ s. s.places };
 
-    ghost pairCount = { λ s. length s.pairs.now };
+    ghost pair_count = { λ s. length s.pairs.now };
 
-    ghost pairAt = { λ s n. slice_index_or s.pairs.now n None };
+    ghost pair_at = { λ s n. slice_index_or s.pairs.now n None };
 
     fn places(&self) -> usize {
         self.places

@@ -12,8 +12,8 @@ loop-place-preserved c =
     let h = c.loop-place-test.true in
     elim c.if-marked.branch [
       | then-marked w ↦ (
-        lined_more_marked marks c.loop-place.place queue h w.if-marked.true (ap vec_items w.queue-is ∙ w.push-reserved.ensures.items) c.loop-place.invariant.0,
-        omega (arith, ap vec_capacity w.queue-is, w.push-reserved.ensures.capacity),
+        lined_more_marked marks c.loop-place.place queue h w.if-marked.true (ap vec_items w.queue-is ∙ w.push_reserved.ensures.items) c.loop-place.invariant.0,
+        omega (arith, ap vec_capacity w.queue-is, w.push_reserved.ensures.capacity),
       )
       | else-marked w ↦ (
         lined_more_unmarked marks c.loop-place.place queue h w.if-marked.false (ap vec_items w.queue-is) c.loop-place.invariant.0,

@@ -11,7 +11,7 @@ index-next-requires g c =
 
 pub loop-next-init : goal.loop-next-init
 loop-next-init g c =
-    let inside : c.args.place < g.G.Graph.placeCount c.args.graph.now =
+    let inside : c.args.place < g.G.Graph.place_count c.args.graph.now =
     omega (arith, marked_inside c.args.marks.now c.args.place c.requires.marked, c.requires.long) in (
       walk_begins _ _ _ c.args.place c.args.marks.now (vec_items c.args.queue.now) _ _ _ c.requires.chained c.requires.long c.requires.lined inside
           (head_read _ _ _ _ _ c.args.place _ c.requires.chained inside c.index-next.ensures),
@@ -45,9 +45,9 @@ pub loop-next-preserved : goal.loop-next-preserved
 loop-next-preserved g c =
     let here = walk_number _ _ _ _ _ _ _ _ _ c.in-Some.number c.loop-next.invariant.0 c.in-Some.is in (
       walk_on _ _ _ c.args.place _ _ _ _ c.loop-next.next c.in-Some.number _ _ _ _ _ c.requires.chained c.loop-next.invariant.0 c.in-Some.is
-          c.spread-pair.ensures.spreads c.spread-pair.ensures.grows c.spread-pair.ensures.leads
+          c.spread_pair.ensures.spreads c.spread_pair.ensures.grows c.spread_pair.ensures.leads
           (next_read _ _ _ _ _ c.in-Some.number _ c.requires.chained here.0 c.index-next-in-Some.ensures),
-      omega (arith, c.loop-next.invariant.1, c.spread-pair.ensures.room),
+      omega (arith, c.loop-next.invariant.1, c.spread_pair.ensures.room),
     )
 
 pub returns : goal.returns
@@ -56,6 +56,6 @@ returns g c =
     record {
       spreads = w.spreads;
       grows = w.grows;
-      leads = walk_ends _ _ _ c.args.place _ _ _ _ c.loop-next.next w c.in-default.is;
+      leads = walk_ends _ _ _ c.args.place _ _ _ _ c.loop-next.next w c.in_default.is;
       room = c.loop-next.invariant.1;
     }

@@ -5,7 +5,7 @@ use Rattle.graph.proofs.marking.spread.Given as goal
 
 abbrev pub invariant-loop-next : goal.invariant-loop-next
 invariant-loop-next g l =
-    Walked (g.G.Graph.placeCount l.graph) (g.G.Graph.pairCount l.graph) (g.G.Graph.pairAt l.graph) l.place
+    Walked (g.G.Graph.place_count l.graph) (g.G.Graph.pair_count l.graph) (g.G.Graph.pair_at l.graph) l.place
     l.initial.marks (vec_items l.initial.queue) l.marks (vec_items l.queue) l.next
     × (vec_capacity l.initial.queue ≤ vec_capacity l.queue)
 

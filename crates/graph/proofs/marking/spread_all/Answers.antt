@@ -26,9 +26,9 @@ spread-requires g c =
 
 pub loop-done-preserved : goal.loop-done-preserved
 loop-done-preserved g c =
-    let n = g.G.Graph.placeCount c.args.graph.now in
-    let m = g.G.Graph.pairCount c.args.graph.now in
-    let E = g.G.Graph.pairAt c.args.graph.now in
+    let n = g.G.Graph.place_count c.args.graph.now in
+    let m = g.G.Graph.pair_count c.args.graph.now in
+    let E = g.G.Graph.pair_at c.args.graph.now in
     let queue = vec_items c.loop-done.queue in
     let front : c.loop-done.done < length queue = omega (arith, c.loop-done.queue.ok.0) in
     let place = get_or_read_under queue c.loop-done.done (length queue) c.index.result.now 0 c.index.ensures front (omega arith) in (

@@ -5,10 +5,10 @@ use Rattle.graph.proofs.marking.spread_all.Given as goal
 -- the places at the front of the queue have spread their marks
 abbrev pub invariant-loop-done : goal.invariant-loop-done
 invariant-loop-done g l =
-    Spreading (g.G.Graph.placeCount l.graph) (g.G.Graph.pairCount l.graph) (g.G.Graph.pairAt l.graph) l.initial.marks l.marks (vec_items l.queue)
+    Spreading (g.G.Graph.place_count l.graph) (g.G.Graph.pair_count l.graph) (g.G.Graph.pair_at l.graph) l.initial.marks l.marks (vec_items l.queue)
     × (l.done ≤ length (vec_items l.queue))
-    × ((q : ℕ) → q < l.done → Spread (g.G.Graph.placeCount l.graph) (g.G.Graph.pairCount l.graph) (g.G.Graph.pairAt l.graph) l.marks (get_or (vec_items l.queue) q 0))
+    × ((q : ℕ) → q < l.done → Spread (g.G.Graph.place_count l.graph) (g.G.Graph.pair_count l.graph) (g.G.Graph.pair_at l.graph) l.marks (get_or (vec_items l.queue) q 0))
     × (vec_capacity l.initial.queue ≤ vec_capacity l.queue)
 
 abbrev pub decreases-loop-done : goal.decreases-loop-done
-decreases-loop-done g l = g.G.Graph.placeCount l.graph - l.done
+decreases-loop-done g l = g.G.Graph.place_count l.graph - l.done

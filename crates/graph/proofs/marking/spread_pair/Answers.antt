@@ -23,6 +23,6 @@ pub returns-in-default : goal.returns-in-default
 returns-in-default g c = record {
   spreads = spreading_same _ _ _ c.args.marks.now (vec_items c.args.queue.now) c.requires.long c.requires.lined;
   grows = grown_same c.args.marks.now (vec_items c.args.queue.now);
-  leads = spread_none _ (g.G.Graph.pairAt c.args.graph.now) c.args.marks.now c.args.number c.requires.long c.in-default.ensures;
+  leads = spread_none _ (g.G.Graph.pair_at c.args.graph.now) c.args.marks.now c.args.number c.requires.long c.in-default.ensures;
   room = omega arith;
 }

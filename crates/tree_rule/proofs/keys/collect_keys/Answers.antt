@@ -9,32 +9,32 @@ use Rattle.tree_rule.proofs.keys.collect_keys.Goals as goal
 pub bounds-nodes-value : goal.bounds-nodes-value
 bounds-nodes-value c =
     let ns = c.args.nodes.now in
-    let fw = forward ns c.args.i c.requires.1 c.requires.0 in
+    let fw = forward ns c.args.i c.requires.ended c.requires.i_in_bounds in
     let p = pair_here ns (at ns c.args.i).end c.loop-key.key fw c.loop-key-test.true c.loop-key.invariant.1 in
-    omega (arith, p.valued, (c.requires.1 c.args.i c.requires.0).1)
+    omega (arith, p.valued, (c.requires.ended c.args.i c.requires.i_in_bounds).1)
 
 pub loop-key-smaller : goal.loop-key-smaller
 loop-key-smaller c =
     let ns = c.args.nodes.now in
-    let fw = forward ns c.args.i c.requires.1 c.requires.0 in
+    let fw = forward ns c.args.i c.requires.ended c.requires.i_in_bounds in
     let p = pair_here ns (at ns c.args.i).end c.loop-key.key fw c.loop-key-test.true c.loop-key.invariant.1 in
     omega (arith, p.valued, fw c.loop-key.key c.loop-key-test.true, fw (at ns c.loop-key.key).end p.valued)
 
 pub loop-key-preserved : goal.loop-key-preserved
 loop-key-preserved c =
     let ns = c.args.nodes.now in
-    let fw = forward ns c.args.i c.requires.1 c.requires.0 in
+    let fw = forward ns c.args.i c.requires.ended c.requires.i_in_bounds in
     let p = pair_here ns (at ns c.args.i).end c.loop-key.key fw c.loop-key-test.true c.loop-key.invariant.1 in
     let on = fw c.loop-key.key c.loop-key-test.true in
     let on2 = fw (at ns c.loop-key.key).end p.valued in
     let P : ℕ → Type 0 = λ k. k < length ns in
     let Q : List ℕ → Type 0 = All P in (
-      keys_more _ _ _ _ _ _ _ c.push-reserved.ensures.items p.walk c.loop-key.invariant.0,
+      keys_more _ _ _ _ _ _ _ c.push_reserved.ensures.items p.walk c.loop-key.invariant.0,
       p.turn,
       omega arith,
       omega arith,
       omega arith,
-      subst Q (sym c.push-reserved.ensures.items) (All-push P (vec_items c.loop-key.found) c.loop-key.key c.loop-key.invariant.5 (omega (arith, (c.requires.1 c.args.i c.requires.0).1))),
+      subst Q (sym c.push_reserved.ensures.items) (All-push P (vec_items c.loop-key.found) c.loop-key.key c.loop-key.invariant.5 (omega (arith, (c.requires.ended c.args.i c.requires.i_in_bounds).1))),
     )
 
 pub returns : goal.returns

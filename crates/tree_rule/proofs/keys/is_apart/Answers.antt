@@ -29,7 +29,7 @@ loop-i-preserved c =
     let e = take_rest c.args.keys.now (c.loop-i.i + 1) in (
       λ a. (apart_here R c.args.keys.now c.loop-i.i c.loop-i-test.true (c.loop-i.invariant.0 a)).1,
       λ a. c.loop-i.invariant.1 (apart_back R c.args.keys.now c.loop-i.i c.loop-i-test.true
-          (rw e at (c.if-not-is-new.ensures.0 refl), a)),
+          (rw e at (c.if-not-is_new.ensures.0 refl), a)),
     )
 
 pub returns : goal.returns

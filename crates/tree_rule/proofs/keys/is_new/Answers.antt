@@ -20,7 +20,7 @@ pub loop-other-preserved : goal.loop-other-preserved
 loop-other-preserved c =
     let P : ℕ → Type 0 = λ l. Equal c.args.nodes.now c.args.text.now c.args.key l → ⊥ in
     All-more P c.args.later.now c.loop-other.other-index 0 c.loop-other-test.true c.loop-other.invariant
-    (λ e. false≢true (c.if-is-equal.ensures.1 e))
+    (λ e. false≢true (c.if-is_equal.ensures.1 e))
 
 pub returns : goal.returns
 returns c =

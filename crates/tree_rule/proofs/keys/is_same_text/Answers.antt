@@ -6,6 +6,6 @@ use Rattle.std.proofs.lemmas.Bool.Decides.{Decides-eqb}
 pub returns : goal.returns
 returns c =
     let d = slice_eq-Decides Decides-eqb _ _ _ c.eq.ensures in
-    let p = c.bytes-of.ensures in
-    let q = c.bytes-of-2.ensures in
+    let p = c.bytes_of.ensures in
+    let q = c.bytes_of-2.ensures in
     (λ t. sym p ∙ d.0 t ∙ q, λ e. d.1 (p ∙ e ∙ sym q))

@@ -18,7 +18,7 @@ pub returns-then-not-nests : goal.returns-then-not-nests
 returns-then-not-nests t c =
     let ns = c.args.nodes.now in
     let e = (at ns c.args.i).end in
-    let fw = forward ns c.args.i c.requires.1 c.requires.0 in
+    let fw = forward ns c.args.i c.requires.ended c.requires.i_in_bounds in
     let h = c.loop-child-test.true in (
       λ e. absurd (false≢true e),
       λ all. let z = all_here (Nests (c.args.deep - 1) ns) ns e c.loop-child.child fw h (c.loop-child.invariant.0 all) in c.if-not-nests.ensures.1 z.0,
@@ -28,7 +28,7 @@ pub loop-child-preserved : goal.loop-child-preserved
 loop-child-preserved t c =
     let ns = c.args.nodes.now in
     let e = (at ns c.args.i).end in
-    let fw = forward ns c.args.i c.requires.1 c.requires.0 in
+    let fw = forward ns c.args.i c.requires.ended c.requires.i_in_bounds in
     let h = c.loop-child-test.true in (
       λ all. (all_here (Nests (c.args.deep - 1) ns) ns e c.loop-child.child fw h (c.loop-child.invariant.0 all)).1,
       λ all. c.loop-child.invariant.1 (all_back (Nests (c.args.deep - 1) ns) ns e c.loop-child.child fw h (c.if-not-nests.ensures.0 refl, all)),

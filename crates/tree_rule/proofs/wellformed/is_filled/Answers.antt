@@ -8,7 +8,7 @@ pub loop-child-preserved : goal.loop-child-preserved
 loop-child-preserved c =
     let ns = c.args.nodes.now in
     let e = (at ns c.args.i).end in
-    let fw = forward ns c.args.i c.requires.1 c.requires.0 in
+    let fw = forward ns c.args.i c.requires.ended c.requires.i_in_bounds in
     let h = c.loop-child-test.true in
     let inv = c.loop-child.invariant in (
       λ f. all_here (λ k. (at ns k).end ≤ e) ns e c.loop-child.child fw h (inv.0 f).1,

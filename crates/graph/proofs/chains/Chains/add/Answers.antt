@@ -12,7 +12,7 @@ returns-in-default g c = record {
 pub returns : goal.returns
 returns g c = record {
   chained = add_some _ _ c.args.number _ _ _ c.in-Some.from _ c.index.result.now c.requires.chained c.in-Some.ensures
-      c.index.ensures c.push-reserved-2.ensures.items;
-  heads-room = omega arith;
-  nexts-room = omega (arith, c.push-reserved-2.ensures.capacity);
+      c.index.ensures c.push_reserved-2.ensures.items;
+  heads_room = omega arith;
+  nexts_room = omega (arith, c.push_reserved-2.ensures.capacity);
 }
