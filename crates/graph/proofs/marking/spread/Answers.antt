@@ -18,8 +18,8 @@ loop-next-init g c =
       omega arith,
     )
 
-pub spread-pair-requires : goal.spread-pair-requires
-spread-pair-requires g c =
+pub spread_pair-requires : goal.spread_pair-requires
+spread_pair-requires g c =
     let w = c.loop-next.invariant.0 in
     let here = walk_number _ _ _ _ _ _ _ _ _ c.in-Some.number w c.in-Some.is in
     record {

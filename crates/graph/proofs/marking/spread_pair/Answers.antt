@@ -19,10 +19,10 @@ returns-in-Some g c =
     c.requires.long c.requires.lined c.requires.counted c.requires.from c.in-Some.ensures c.enqueue.ensures.marks c.enqueue.ensures.queue in
     record { spreads = all.0; grows = all.1; leads = all.2; room = c.enqueue.ensures.room }
 
-pub returns-in-default : goal.returns-in-default
-returns-in-default g c = record {
+pub returns-in_default : goal.returns-in_default
+returns-in_default g c = record {
   spreads = spreading_same _ _ _ c.args.marks.now (vec_items c.args.queue.now) c.requires.long c.requires.lined;
   grows = grown_same c.args.marks.now (vec_items c.args.queue.now);
-  leads = spread_none _ (g.G.Graph.pair_at c.args.graph.now) c.args.marks.now c.args.number c.requires.long c.in-default.ensures;
+  leads = spread_none _ (g.G.Graph.pair_at c.args.graph.now) c.args.marks.now c.args.number c.requires.long c.in_default.ensures;
   room = omega arith;
 }

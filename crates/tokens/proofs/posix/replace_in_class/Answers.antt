@@ -9,10 +9,10 @@ use Rattle.tokens.proofs.Tokens.{front_none}
 use Rattle.buffer.proofs.Writes.{wrote, settled}
 use Rattle.tokens.proofs.posix.replace_in_class.Goals as goal
 
-pub returns-in-err-push : goal.returns-in-err-push
-returns-in-err-push c =
-    opening_refused c.from-residual.result c.args.parser.now.rest.now _ _ _ _ c.from-residual.ensures.0 c.requires refl
-    c.in-err-push.ensures.0 c.in-err-push.ensures.1
+pub returns-in_err-push : goal.returns-in_err-push
+returns-in_err-push c =
+    opening_refused c.from_residual.result c.args.parser.now.rest.now _ _ _ _ c.from_residual.ensures.0 c.requires refl
+    c.in_err-push.ensures.0 c.in_err-push.ensures.1
 
 -- the properties that are written are those of the bracket that stands there
 bracket_step : (w v : ClassWalker) (xs ys piece : List ℕ) (p : PosixClass) → bracket_here w xs ≡ Some p → v ≡ passed w → ys ≡ drop 9 xs → piece ≡ property_of p →
@@ -21,38 +21,38 @@ bracket_step w v xs ys piece p here e q is =
     let over = step_bracket w v xs ys p here e q in
     (over.0 ∙ ap (λ (us : List ℕ). us ++ rest_replaced v ys) (sym is), over.1)
 
-pub returns-in-err-extend : goal.returns-in-err-extend
-returns-in-err-extend c =
+pub returns-in_err-extend : goal.returns-in_err-extend
+returns-in_err-extend c =
     let xs = c.loop-byte.parser.rest.now in
     let piece = c.properties.result.now in
-    class_refused c.from-residual-in-err-extend.result c.args.parser.now.rest.now c.next.new.self.rest.now _ _ _ _ _
+    class_refused c.from_residual-in_err-extend.result c.args.parser.now.rest.now c.next.new.self.rest.now _ _ _ _ _
     (rest_replaced c.loop-byte.walker xs) (rest_replaced (passed c.loop-byte.walker) (drop 9 xs)) piece
-    c.from-residual-in-err-extend.ensures.0 c.requires c.next.ensures c.in-ok-push.ensures.1 c.loop-byte.invariant.1
-    (bracket_step c.loop-byte.walker (passed c.loop-byte.walker) xs (drop 9 xs) piece c.in-Some-bracket-here.bracket
-    (sym c.in-Some-bracket-here.ensures) refl refl c.properties.ensures).0
-    c.in-err-extend.ensures.0 c.in-err-extend.ensures.1
+    c.from_residual-in_err-extend.ensures.0 c.requires c.next.ensures c.in_ok-push.ensures.1 c.loop-byte.invariant.1
+    (bracket_step c.loop-byte.walker (passed c.loop-byte.walker) xs (drop 9 xs) piece c.in-Some-bracket_here.bracket
+    (sym c.in-Some-bracket_here.ensures) refl refl c.properties.ensures).0
+    c.in_err-extend.ensures.0 c.in_err-extend.ensures.1
 
-pub loop-byte-preserved-in-Some-bracket-here : goal.loop-byte-preserved-in-Some-bracket-here
-loop-byte-preserved-in-Some-bracket-here c =
+pub loop-byte-preserved-in-Some-bracket_here : goal.loop-byte-preserved-in-Some-bracket_here
+loop-byte-preserved-in-Some-bracket_here c =
     let xs = c.loop-byte.parser.rest.now in
     let ys = c.advance.new.self.rest.now in
     let piece = c.properties.result.now in
-    let step = bracket_step c.loop-byte.walker c.pass-bracket.new.self xs ys piece c.in-Some-bracket-here.bracket
-    (sym c.in-Some-bracket-here.ensures) c.pass-bracket.ensures c.advance.ensures.left c.properties.ensures in
-    let deep = ap (λ (v : ClassWalker). v.depth) c.pass-bracket.ensures in (
-      omega (arith, deep, c.loop-byte.invariant.0, simp length-append at (ap length c.in-ok-extend.ensures.1)),
-      wrote _ _ _ (rest_replaced c.loop-byte.walker xs) _ (rest_replaced c.pass-bracket.new.self ys) piece c.loop-byte.invariant.1 step.0 c.in-ok-extend.ensures.1,
+    let step = bracket_step c.loop-byte.walker c.pass_bracket.new.self xs ys piece c.in-Some-bracket_here.bracket
+    (sym c.in-Some-bracket_here.ensures) c.pass_bracket.ensures c.advance.ensures.left c.properties.ensures in
+    let deep = ap (λ (v : ClassWalker). v.depth) c.pass_bracket.ensures in (
+      omega (arith, deep, c.loop-byte.invariant.0, simp length-append at (ap length c.in_ok-extend.ensures.1)),
+      wrote _ _ _ (rest_replaced c.loop-byte.walker xs) _ (rest_replaced c.pass_bracket.new.self ys) piece c.loop-byte.invariant.1 step.0 c.in_ok-extend.ensures.1,
       sym step.1 ∙ c.loop-byte.invariant.2,
     )
 
-pub returns-in-err-push-2 : goal.returns-in-err-push-2
-returns-in-err-push-2 c =
+pub returns-in_err-push-2 : goal.returns-in_err-push-2
+returns-in_err-push-2 c =
     let xs = c.loop-byte.parser.rest.now in
-    let here = byte_front c.loop-byte.walker xs c.in-Some.byte (sym c.in-Some.ensures) (sym c.in-default-bracket-here.ensures) in
-    class_refused c.from-residual-in-err-push-2.result c.args.parser.now.rest.now c.next.new.self.rest.now _ _ _ _ _
+    let here = byte_front c.loop-byte.walker xs c.in-Some.byte (sym c.in-Some.ensures) (sym c.in_default-bracket_here.ensures) in
+    class_refused c.from_residual-in_err-push-2.result c.args.parser.now.rest.now c.next.new.self.rest.now _ _ _ _ _
     (rest_replaced c.loop-byte.walker xs) here.0 (c.in-Some.byte ∷ [])
-    c.from-residual-in-err-push-2.ensures.0 c.requires c.next.ensures c.in-ok-push.ensures.1 c.loop-byte.invariant.1
-    here.1 c.in-err-push-2.ensures.0 c.in-err-push-2.ensures.1
+    c.from_residual-in_err-push-2.ensures.0 c.requires c.next.ensures c.in_ok-push.ensures.1 c.loop-byte.invariant.1
+    here.1 c.in_err-push-2.ensures.0 c.in_err-push-2.ensures.1
 
 pub step-requires : goal.step-requires
 step-requires c = omega (arith, c.loop-byte.invariant.0, fits c.loop-byte.out)
@@ -60,36 +60,36 @@ step-requires c = omega (arith, c.loop-byte.invariant.0, fits c.loop-byte.out)
 pub loop-byte-preserved : goal.loop-byte-preserved
 loop-byte-preserved c =
     let xs = c.loop-byte.parser.rest.now in
-    let ys = c.next-in-default-bracket-here.new.self.rest.now in
+    let ys = c.next-in_default-bracket_here.new.self.rest.now in
     let here = sym c.in-Some.ensures in
-    let step = step_byte c.loop-byte.walker c.step.new.self xs ys c.in-Some.byte here c.next-in-default-bracket-here.ensures
-    (sym c.if-step.ensures.closing) c.step.ensures.after (sym c.in-default-bracket-here.ensures) in (
+    let step = step_byte c.loop-byte.walker c.step.new.self xs ys c.in-Some.byte here c.next-in_default-bracket_here.ensures
+    (sym c.if-step.ensures.closing) c.step.ensures.after (sym c.in_default-bracket_here.ensures) in (
       omega (
         arith,
         depth_on c.loop-byte.walker c.step.new.self c.in-Some.byte c.step.ensures.after,
         c.loop-byte.invariant.0,
-        simp length-append at (ap length c.in-ok-push-2.ensures.1),
+        simp length-append at (ap length c.in_ok-push-2.ensures.1),
       ),
-      wrote _ _ _ (rest_replaced c.loop-byte.walker xs) _ (rest_replaced c.step.new.self ys) (c.in-Some.byte ∷ []) c.loop-byte.invariant.1 step.0 c.in-ok-push-2.ensures.1,
+      wrote _ _ _ (rest_replaced c.loop-byte.walker xs) _ (rest_replaced c.step.new.self ys) (c.in-Some.byte ∷ []) c.loop-byte.invariant.1 step.0 c.in_ok-push-2.ensures.1,
       sym step.1 ∙ c.loop-byte.invariant.2,
     )
 
 pub returns-then-step : goal.returns-then-step
 returns-then-step c =
     let xs = c.loop-byte.parser.rest.now in
-    let ys = c.next-in-default-bracket-here.new.self.rest.now in
-    let step = step_closing c.loop-byte.walker xs ys c.in-Some.byte (sym c.in-Some.ensures) c.next-in-default-bracket-here.ensures (sym c.if-step.ensures.closing) in
+    let ys = c.next-in_default-bracket_here.new.self.rest.now in
+    let step = step_closing c.loop-byte.walker xs ys c.in-Some.byte (sym c.in-Some.ensures) c.next-in_default-bracket_here.ensures (sym c.if-step.ensures.closing) in
     class_written c.args.parser.now.rest.now c.next.new.self.rest.now ys (vec_items c.args.out.now.items) (vec_items c.push.new.self.items) _
-    c.requires c.next.ensures c.in-ok-push.ensures.1
-    (wrote _ _ _ (rest_replaced c.loop-byte.walker xs) _ [] (c.in-Some.byte ∷ []) c.loop-byte.invariant.1 step.0 c.in-ok-push-2.ensures.1)
+    c.requires c.next.ensures c.in_ok-push.ensures.1
+    (wrote _ _ _ (rest_replaced c.loop-byte.walker xs) _ [] (c.in-Some.byte ∷ []) c.loop-byte.invariant.1 step.0 c.in_ok-push-2.ensures.1)
     (sym step.1 ∙ c.loop-byte.invariant.2)
 
-pub returns-in-default : goal.returns-in-default
-returns-in-default c =
+pub returns-in_default : goal.returns-in_default
+returns-in_default c =
     let xs = c.loop-byte.parser.rest.now in
-    let end = front_none xs (sym c.in-default.ensures) in
+    let end = front_none xs (sym c.in_default.ensures) in
     let step = rest_nil c.loop-byte.walker xs end in
     class_written c.args.parser.now.rest.now c.next.new.self.rest.now xs (vec_items c.args.out.now.items) (vec_items c.push.new.self.items) _
-    c.requires c.next.ensures c.in-ok-push.ensures.1
+    c.requires c.next.ensures c.in_ok-push.ensures.1
     (settled _ _ _ _ [] c.loop-byte.invariant.1 step.0)
     (end ∙ sym step.1 ∙ c.loop-byte.invariant.2)

@@ -6,21 +6,21 @@ use Rattle.tree_rule.specs.Rule.{Equal}
 use Rattle.tree_rule.proofs.Apart.{apart_here, apart_back, apart_past}
 use Rattle.tree_rule.proofs.keys.is_apart.Goals as goal
 
-pub is-new-requires : goal.is-new-requires
-is-new-requires c =
+pub is_new-requires : goal.is_new-requires
+is_new-requires c =
     let n = length c.args.nodes.now in
-    let e = take_rest c.args.keys.now (c.loop-i.i + 1) in (
-      All-get_or (λ k. k < n) c.args.keys.now c.loop-i.i 0 c.loop-i-test.true c.requires.0,
-      rw e (All-drop (λ k. k < n) (c.loop-i.i + 1) c.args.keys.now c.requires.0),
-      c.requires.1,
-    )
+    let e = take_rest c.args.keys.now (c.loop-i.i + 1) in record {
+      key_in_bounds = All-get_or (λ k. k < n) c.args.keys.now c.loop-i.i 0 c.loop-i-test.true c.requires.all;
+      all = rw e (All-drop (λ k. k < n) (c.loop-i.i + 1) c.args.keys.now c.requires.all);
+      each = c.requires.each;
+    }
 
-pub returns-then-not-is-new : goal.returns-then-not-is-new
-returns-then-not-is-new c =
+pub returns-then-not-is_new : goal.returns-then-not-is_new
+returns-then-not-is_new c =
     let R = Equal c.args.nodes.now c.args.text.now in
     let e = take_rest c.args.keys.now (c.loop-i.i + 1) in (
       λ e. absurd (false≢true e),
-      λ a. c.if-not-is-new.ensures.1 (rw e (apart_here R c.args.keys.now c.loop-i.i c.loop-i-test.true (c.loop-i.invariant.0 a)).0),
+      λ a. c.if-not-is_new.ensures.1 (rw e (apart_here R c.args.keys.now c.loop-i.i c.loop-i-test.true (c.loop-i.invariant.0 a)).0),
     )
 
 pub loop-i-preserved : goal.loop-i-preserved

@@ -5,15 +5,18 @@ use Rattle.std.proofs.lemmas.Bool.{false≢true}
 use Rattle.tree_rule.specs.Rule.{Equal}
 use Rattle.tree_rule.proofs.keys.is_new.Goals as goal
 
-pub is-equal-requires : goal.is-equal-requires
-is-equal-requires c =
-    (c.requires.0, All-get_or (λ k. k < length c.args.nodes.now) c.args.later.now c.loop-other.other-index 0 c.loop-other-test.true c.requires.1, c.requires.2)
+pub is_equal-requires : goal.is_equal-requires
+is_equal-requires c = record {
+  key_in_bounds = c.requires.key_in_bounds;
+  other_in_bounds = All-get_or (λ k. k < length c.args.nodes.now) c.args.later.now c.loop-other.other-index 0 c.loop-other-test.true c.requires.all;
+  each = c.requires.each;
+}
 
-pub returns-then-is-equal : goal.returns-then-is-equal
-returns-then-is-equal c =
+pub returns-then-is_equal : goal.returns-then-is_equal
+returns-then-is_equal c =
     let P : ℕ → Type 0 = λ l. Equal c.args.nodes.now c.args.text.now c.args.key l → ⊥ in (
       λ e. absurd (false≢true e),
-      λ all. absurd (All-get_or P c.args.later.now c.loop-other.other-index 0 c.loop-other-test.true all (c.if-is-equal.ensures.0 refl)),
+      λ all. absurd (All-get_or P c.args.later.now c.loop-other.other-index 0 c.loop-other-test.true all (c.if-is_equal.ensures.0 refl)),
     )
 
 pub loop-other-preserved : goal.loop-other-preserved

@@ -2,11 +2,11 @@ use Rattle.std.proofs.Common.{arith}
 use Rattle.graph.proofs.Chaining.{add_none, add_some}
 use Rattle.graph.proofs.chains.Chains.add.Goals as goal
 
-pub returns-in-default : goal.returns-in-default
-returns-in-default g c = record {
-  chained = add_none _ _ c.args.number _ _ _ c.requires.chained c.in-default.ensures c.push-reserved.ensures.items;
-  heads-room = omega arith;
-  nexts-room = omega (arith, c.push-reserved.ensures.capacity);
+pub returns-in_default : goal.returns-in_default
+returns-in_default g c = record {
+  chained = add_none _ _ c.args.number _ _ _ c.requires.chained c.in_default.ensures c.push_reserved.ensures.items;
+  heads_room = omega arith;
+  nexts_room = omega (arith, c.push_reserved.ensures.capacity);
 }
 
 pub returns : goal.returns

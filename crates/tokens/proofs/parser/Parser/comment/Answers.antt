@@ -6,5 +6,5 @@ pub returns : goal.returns
 returns c =
     let xs = c.args.self.now.rest.now in
     taken_comment xs c.advance.new.self.rest.now c.advance.result c.requires.0 c.requires.1
-    (c.advance.ensures.taken ∙ ap (λ (n : ℕ). take n xs) c.comment-length-length.ensures)
-    (c.advance.ensures.left ∙ ap (λ (n : ℕ). drop n xs) c.comment-length-length.ensures)
+    (c.advance.ensures.taken ∙ ap (λ (n : ℕ). take n xs) c.comment_length-length.ensures)
+    (c.advance.ensures.left ∙ ap (λ (n : ℕ). drop n xs) c.comment_length-length.ensures)

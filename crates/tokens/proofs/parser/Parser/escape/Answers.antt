@@ -2,9 +2,9 @@ use Rattle.std.proofs.Common.{sym}
 use Rattle.tokens.proofs.Tokens.{taken_final, taken_escape}
 use Rattle.tokens.proofs.parser.Parser.escape.Goals as goal
 
-pub returns-in-default : goal.returns-in-default
-returns-in-default c =
-    taken_final c.args.self.now.rest.now c.next.new.self.rest.now c.requires c.next.ensures (sym c.in-default.ensures)
+pub returns-in_default : goal.returns-in_default
+returns-in_default c =
+    taken_final c.args.self.now.rest.now c.next.new.self.rest.now c.requires c.next.ensures (sym c.in_default.ensures)
 
 pub returns : goal.returns
 returns c =

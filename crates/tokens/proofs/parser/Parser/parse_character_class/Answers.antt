@@ -4,6 +4,6 @@ use Rattle.tokens.proofs.parser.Parser.parse_character_class.Goals as goal
 
 pub returns : goal.returns
 returns c = taken_class c.args.self.now.rest.now c.next.new.self.rest.now c.advance.new.self.rest.now
-    c.class-extent-extent.result.length _ c.class-extent-extent.result.matches_newline
-    c.requires c.next.ensures c.class-extent-extent.ensures.length refl
-    c.advance.ensures.left c.class-extent-extent.ensures.newline
+    c.class_extent-extent.result.length _ c.class_extent-extent.result.matches_newline
+    c.requires c.next.ensures c.class_extent-extent.ensures.length refl
+    c.advance.ensures.left c.class_extent-extent.ensures.newline
