@@ -128,7 +128,7 @@ fn write_pair<S: Substituter>(
     substituter: &S,
     out: &mut Buffer<u8>,
 ) -> Result<(), TooLong>
-    ensures { Appended out.old.items.items (put (part substituter.now) (meant_pair pair)) result out.new.items.items }
+    ensures { Appended out.old.items.items (put (S.part substituter.now) (meant_pair pair)) result out.new.items.items }
 {
     match pair {
         Pair::Escaped(byte) if byte.is_ascii_digit() => substituter.substitute(byte - b'0', out),
@@ -143,8 +143,8 @@ pub fn substitute_backrefs_in_regex<S: Substituter>(
     substituter: &S,
     out: &mut Buffer<u8>,
 ) -> Result<(), TooLong>
-    ensures text { Appended out.old.items.items (substituted (part substituter.now) regex.now) result out.new.items.items }
-    ensures unchanged { has_backref regex.now ≡ false → substituted (part substituter.now) regex.now ≡ regex.now }
+    ensures text { Appended out.old.items.items (substituted (S.part substituter.now) regex.now) result out.new.items.items }
+    ensures unchanged { has_backref regex.now ≡ false → substituted (S.part substituter.now) regex.now ≡ regex.now }
 {
     let before = out.len();
     let mut pairs = Parser::new(regex);

@@ -4,4 +4,4 @@ use Rattle.backrefs.proofs.Pairs.{no_pairs}
 use Rattle.backrefs.proofs.backrefs.has_backrefs.Goals as goal
 
 pub returns : goal.returns
-returns c = sym (c.loop-pair.invariant ∙ ap any_backref (no_pairs _ c.in-default.ensures.0))
+returns c = sym (c.loop-pair.invariant ∙ ap any_backref (no_pairs _ c.in_default.ensures.0))

@@ -11,15 +11,15 @@ use Rattle.backrefs.proofs.backrefs.substitute_backrefs_in_regex.Goals as goal
 pub loop-pair-preserved : goal.loop-pair-preserved
 loop-pair-preserved g c =
     let part = g.S.Substituter.part c.args.substituter.now in
-    wrote _ _ _ _ _ (substituted part c.read-pair.new.parser.rest.now) (put part (meant_pair c.in-Some.pair)) c.loop-pair.invariant
-    (ap (flat_map (put part)) c.in-Some.ensures.heads) c.in-default-write-pair.ensures.1
+    wrote _ _ _ _ _ (substituted part c.read_pair.new.parser.rest.now) (put part (meant_pair c.in-Some.pair)) c.loop-pair.invariant
+    (ap (flat_map (put part)) c.in-Some.ensures.heads) c.in_default-write_pair.ensures.1
 
 pub returns-in-Err : goal.returns-in-Err
 returns-in-Err g c =
     let part = g.S.Substituter.part c.args.substituter.now in
     record {
       text =
-          refused _ _ _ _ _ (substituted part c.read-pair.new.parser.rest.now) (put part (meant_pair c.in-Some.pair)) c.len-before.result c.loop-pair.invariant
+          refused _ _ _ _ _ (substituted part c.read_pair.new.parser.rest.now) (put part (meant_pair c.in-Some.pair)) c.len-before.result c.loop-pair.invariant
           (ap (flat_map (put part)) c.in-Some.ensures.heads) c.in-Err.ensures.0 c.len-before.ensures
           (c.truncate.ensures ∙ ap (take c.len-before.result) c.in-Err.ensures.1);
       unchanged = substitution_unchanged part c.args.regex.now;
@@ -29,6 +29,6 @@ pub returns : goal.returns
 returns g c =
     let part = g.S.Substituter.part c.args.substituter.now in
     record {
-      text = ended _ _ _ _ c.loop-pair.invariant (ap (flat_map (put part)) (no_pairs _ c.in-default.ensures.0)) (fits c.loop-pair.out);
+      text = ended _ _ _ _ c.loop-pair.invariant (ap (flat_map (put part)) (no_pairs _ c.in_default.ensures.0)) (fits c.loop-pair.out);
       unchanged = substitution_unchanged part c.args.regex.now;
     }

@@ -10,7 +10,7 @@ loop-byte-preserved c =
     let text = c.args.text.now in
     let i = c.loop-byte.byte-index in
     wrote _ _ _ _ _ (literally (drop (i + 1) text)) (literal (get_or text i 0)) c.loop-byte.invariant
-    (at_drop_more literally text i 0 c.loop-byte-test.true) c.in-default.ensures.1
+    (at_drop_more literally text i 0 c.loop-byte-test.true) c.in_default.ensures.1
 
 pub returns-in-Err : goal.returns-in-Err
 returns-in-Err c =

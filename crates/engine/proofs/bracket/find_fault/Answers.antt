@@ -8,11 +8,11 @@ use Rattle.engine.proofs.BracketLaws.{fault_on, fault_stuck, fault_end, depth_bo
 use Rattle.engine.proofs.Units.{no_units}
 use Rattle.engine.proofs.bracket.find_fault.Goals as goal
 
-pub returns-in-default-depth-after : goal.returns-in-default-depth-after
-returns-in-default-depth-after c =
+pub returns-in_default-depth_after : goal.returns-in_default-depth_after
+returns-in_default-depth_after c =
     let d = c.loop-unit.depth in
     let e = c.loop-unit.ending in
-    sym (fault_stuck d e (meant c.in-Some.unit) (units c.read-unit.new.parser.rest.now) (sym c.in-default-depth-after.ensures))
+    sym (fault_stuck d e (meant c.in-Some.unit) (units c.read_unit.new.parser.rest.now) (sym c.in_default-depth_after.ensures))
     ∙ ap (fault_from d e) (sym c.in-Some.ensures.heads) ∙ c.loop-unit.invariant.1
 
 pub loop-unit-preserved : goal.loop-unit-preserved
@@ -20,11 +20,11 @@ loop-unit-preserved c =
     let d = c.loop-unit.depth in
     let e = c.loop-unit.ending in
     let u = meant c.in-Some.unit in
-    let d' = c.in-Some-depth-after.after in
-    let us = units c.read-unit.new.parser.rest.now in
-    let on = sym c.in-Some-depth-after.ensures in (
+    let d' = c.in-Some-depth_after.after in
+    let us = units c.read_unit.new.parser.rest.now in
+    let on = sym c.in-Some-depth_after.ensures in (
       omega (arith, c.in-Some.ensures.shorter, depth_bound d d' u on, c.loop-unit.invariant.0),
-      ap (λ (f : Option BracketFault). fault_from d' f us) c.fault-at-end-ending.ensures
+      ap (λ (f : Option BracketFault). fault_from d' f us) c.fault_at_end-ending.ensures
           ∙ sym (fault_on d d' e u us on) ∙ ap (fault_from d e) (sym c.in-Some.ensures.heads) ∙ c.loop-unit.invariant.1,
     )
 
@@ -32,4 +32,4 @@ pub returns : goal.returns
 returns c =
     let d = c.loop-unit.depth in
     let e = c.loop-unit.ending in
-    c.answer-at-end.ensures ∙ sym (fault_end d e) ∙ ap (fault_from d e) (sym (no_units _ c.in-default.ensures.0)) ∙ c.loop-unit.invariant.1
+    c.answer_at_end.ensures ∙ sym (fault_end d e) ∙ ap (fault_from d e) (sym (no_units _ c.in_default.ensures.0)) ∙ c.loop-unit.invariant.1

@@ -17,10 +17,10 @@ push_refused (Err x) before after rest e over same = (omega arith, same)
 begun : (before items rest : List ℕ) → items ≡ before ++ 0 ∷ [] → Writing before (0 ∷ rest) items rest
 begun before items rest e = wrote before (0 ∷ rest) before (0 ∷ rest) items rest (0 ∷ []) (started before (0 ∷ rest)) refl e
 
-pub returns-in-err-push : goal.returns-in-err-push
-returns-in-err-push c =
+pub returns-in_err-push : goal.returns-in_err-push
+returns-in_err-push c =
     record {
-      numbers = push_refused c.from-residual.result _ _ _ c.from-residual.ensures.0 c.in-err-push.ensures.0 c.in-err-push.ensures.1;
+      numbers = push_refused c.from_residual.result _ _ _ c.from_residual.ensures.0 c.in_err-push.ensures.0 c.in_err-push.ensures.1;
       rising = captures_rise c.args.regex.now;
     }
 
@@ -29,7 +29,7 @@ returns-in-Err c =
     let rest = valid_numbers [] 0 (marks c.args.regex.now) in
     record {
       numbers =
-          refused _ (0 ∷ rest) _ rest _ [] rest c.len-before.result (begun _ _ rest c.in-ok-push.ensures.1) (sym (append-nil rest))
+          refused _ (0 ∷ rest) _ rest _ [] rest c.len-before.result (begun _ _ rest c.in_ok-push.ensures.1) (sym (append-nil rest))
           c.in-Err.ensures.0 c.len-before.ensures (c.truncate.ensures ∙ ap (take c.len-before.result) c.in-Err.ensures.1);
       rising = captures_rise c.args.regex.now;
     }
@@ -40,7 +40,7 @@ returns c =
     record {
       numbers =
           ended _ (0 ∷ rest) _ []
-          (wrote _ (0 ∷ rest) _ rest _ [] rest (begun _ _ rest c.in-ok-push.ensures.1) (sym (append-nil rest)) c.in-default.ensures.1) refl
-          (fits c.write-group-numbers.new.out);
+          (wrote _ (0 ∷ rest) _ rest _ [] rest (begun _ _ rest c.in_ok-push.ensures.1) (sym (append-nil rest)) c.in_default.ensures.1) refl
+          (fits c.write_group_numbers.new.out);
       rising = captures_rise c.args.regex.now;
     }

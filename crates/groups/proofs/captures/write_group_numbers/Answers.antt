@@ -25,8 +25,8 @@ loop-mark-preserved c =
       (
         groups_after groups m,
         d ∙ ap (λ (k : ℕ). depth_after k m) deep ∙ sym (deep_after groups m),
-        wrote _ _ _ _ _ (valid_numbers (groups_after groups m) c.meet.new.self.number (marks c.read-mark.new.parser.rest.now)) (listed c.meet.result) c.loop-mark.invariant.2.2
-            (mark_step _ _ m groups _ _ _ _ w.heads deep n found) c.in-default-write-number.ensures.1,
+        wrote _ _ _ _ _ (valid_numbers (groups_after groups m) c.meet.new.self.number (marks c.read_mark.new.parser.rest.now)) (listed c.meet.result) c.loop-mark.invariant.2.2
+            (mark_step _ _ m groups _ _ _ _ w.heads deep n found) c.in_default-write_number.ensures.1,
       ),
     )
 
@@ -35,7 +35,7 @@ returns-in-Err c =
     let w = c.in-Some.ensures in
     let m = w.mark in
     let groups = c.loop-mark.invariant.2.0 in
-    refused _ _ _ _ _ (valid_numbers (groups_after groups m) c.meet.new.self.number (marks c.read-mark.new.parser.rest.now)) (listed c.meet.result)
+    refused _ _ _ _ _ (valid_numbers (groups_after groups m) c.meet.new.self.number (marks c.read_mark.new.parser.rest.now)) (listed c.meet.result)
     c.len-before.result c.loop-mark.invariant.2.2
     (mark_step _ _ m groups _ _ _ _ w.heads c.loop-mark.invariant.2.1 (c.meet.ensures.number m w.stands) (c.meet.ensures.found m w.stands))
     c.in-Err.ensures.0 c.len-before.ensures (c.truncate.ensures ∙ ap (take c.len-before.result) c.in-Err.ensures.1)
@@ -43,4 +43,4 @@ returns-in-Err c =
 pub returns : goal.returns
 returns c =
     ended _ _ _ _ c.loop-mark.invariant.2.2
-    (ap (valid_numbers c.loop-mark.invariant.2.0 c.loop-mark.numbering.number) (no_marks _ c.in-default.ensures.0)) (fits c.loop-mark.out)
+    (ap (valid_numbers c.loop-mark.invariant.2.0 c.loop-mark.numbering.number) (no_marks _ c.in_default.ensures.0)) (fits c.loop-mark.out)

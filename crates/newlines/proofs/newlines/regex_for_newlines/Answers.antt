@@ -14,7 +14,7 @@ loop-token-smaller c = c.in-Some.ensures.shorter
 pub loop-token-preserved : goal.loop-token-preserved
 loop-token-preserved c =
     wrote _ _ _ _ _ (flat_map with_newline (tokens c.token.new.self.rest.now)) (with_newline (meant c.in-Some.token)) c.loop-token.invariant
-    (ap (flat_map with_newline) c.in-Some.ensures.heads) c.in-default-write-for-newlines.ensures.1
+    (ap (flat_map with_newline) c.in-Some.ensures.heads) c.in_default-write_for_newlines.ensures.1
 
 pub returns-in-Err : goal.returns-in-Err
 returns-in-Err c =
@@ -23,4 +23,4 @@ returns-in-Err c =
     c.len-before.ensures (c.truncate.ensures ∙ ap (take c.len-before.result) c.in-Err.ensures.1)
 
 pub returns : goal.returns
-returns c = ended _ _ _ _ c.loop-token.invariant (ap (flat_map with_newline) (no_tokens _ c.in-default.ensures.0)) (fits c.loop-token.out)
+returns c = ended _ _ _ _ c.loop-token.invariant (ap (flat_map with_newline) (no_tokens _ c.in_default.ensures.0)) (fits c.loop-token.out)

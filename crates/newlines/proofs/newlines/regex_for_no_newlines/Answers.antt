@@ -15,15 +15,15 @@ step xs ys p next w e =
     ap without_newlines w.heads
     ∙ ap (λ (n : Option ℕ). without_newline (meant_piece p) n ++ for_no_newlines ys) (ap front (pieces_joined ys) ∙ sym e)
 
-pub write-for-no-newlines-requires : goal.write-for-no-newlines-requires
-write-for-no-newlines-requires c = c.in-Some.ensures.told
+pub write_for_no_newlines-requires : goal.write_for_no_newlines-requires
+write_for_no_newlines-requires c = c.in-Some.ensures.told
 
 pub loop-piece-smaller : goal.loop-piece-smaller
 loop-piece-smaller c = c.in-Some.ensures.shorter
 
 pub loop-piece-preserved : goal.loop-piece-preserved
 loop-piece-preserved c =
-    wrote _ _ _ _ _ _ _ c.loop-piece.invariant (step _ _ _ _ c.in-Some.ensures c.peek.ensures) c.in-default-write-for-no-newlines.ensures.1
+    wrote _ _ _ _ _ _ _ c.loop-piece.invariant (step _ _ _ _ c.in-Some.ensures c.peek.ensures) c.in_default-write_for_no_newlines.ensures.1
 
 pub returns-in-Err : goal.returns-in-Err
 returns-in-Err c =
@@ -31,4 +31,4 @@ returns-in-Err c =
     c.len-before.ensures (c.truncate.ensures ∙ ap (take c.len-before.result) c.in-Err.ensures.1)
 
 pub returns : goal.returns
-returns c = ended _ _ _ _ c.loop-piece.invariant (ap without_newlines (no_pieces _ c.in-default.ensures.0)) (fits c.loop-piece.out)
+returns c = ended _ _ _ _ c.loop-piece.invariant (ap without_newlines (no_pieces _ c.in_default.ensures.0)) (fits c.loop-piece.out)

@@ -6,11 +6,11 @@ use Rattle.newlines.proofs.newlines.write_class_or_end.Goals as goal
 pub returns-then-class-len : goal.returns-then-class-len
 returns-then-class-len c = (simp length-append (omega (arith, c.len.ensures, fits c.args.out.now)), refl)
 
-pub returns-in-err-extend-2 : goal.returns-in-err-extend-2
-returns-in-err-extend-2 c =
-    absurd (omega (arith, c.len.ensures, fits c.args.out.now, c.in-err-extend-2.ensures.0, simp length-append at (ap length c.in-ok-extend.ensures.1)))
+pub returns-in_err-extend-2 : goal.returns-in_err-extend-2
+returns-in_err-extend-2 c =
+    absurd (omega (arith, c.len.ensures, fits c.args.out.now, c.in_err-extend-2.ensures.0, simp length-append at (ap length c.in_ok-extend.ensures.1)))
 
 pub returns : goal.returns
 returns c =
     appended_last _ _ _ _ _ _ _ c.extend-3.result (simp length-append (omega (arith, c.len.ensures, fits c.args.out.now)))
-    c.in-ok-extend.ensures.1 c.in-ok-extend-2.ensures.1 c.extend-3.ensures
+    c.in_ok-extend.ensures.1 c.in_ok-extend-2.ensures.1 c.extend-3.ensures

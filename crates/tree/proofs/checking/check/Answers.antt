@@ -8,8 +8,8 @@ use Rattle.tree.proofs.Writing.{written}
 use Rattle.tree_rule.proofs.Refused.{refused_not_formed}
 use Rattle.tree.proofs.checking.check.Goals as goal
 
-pub invariant-of-result : goal.invariant-of-result
-invariant-of-result c = (∣ c.in-Ok.ensures ∣₁, tt)
+pub invariant_of-result : goal.invariant_of-result
+invariant_of-result c = (∣ c.in-Ok.ensures ∣₁, tt)
 
 pub returns-in-Ok : goal.returns-in-Ok
 returns-in-Ok c =

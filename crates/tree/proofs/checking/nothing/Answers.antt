@@ -1,5 +1,5 @@
 use Rattle.tree.proofs.Lone.{lone_formed}
 use Rattle.tree.proofs.checking.nothing.Goals as goal
 
-pub invariant-of-result : goal.invariant-of-result
-invariant-of-result c = (∣ lone_formed ∣₁, tt)
+pub invariant_of-result : goal.invariant_of-result
+invariant_of-result c = (∣ lone_formed ∣₁, tt)

@@ -5,12 +5,12 @@ use Rattle.tree.proofs.tree.Tree.boolean.Goals as goal
 
 pub returns-then-raw-ne1 : goal.returns-then-raw-ne1
 returns-then-raw-ne1 c =
-    let f = c.in-ok-raw.ensures in
+    let f = c.in_ok-raw.ensures in
     (f.0, boolean_none _ _ _ (λ e. c.if-raw-ne1.true (ap (λ (n : RawNode). n.kind) f.1 ∙ e)))
 
 pub returns : goal.returns
 returns c =
-    let f = c.in-ok-raw.ensures in (
+    let f = c.in_ok-raw.ensures in (
       f.0,
       λ v s. boolean_some _ _ _ (sym (ap (λ (n : RawNode). n.kind) f.1) ∙ c.if-raw-ne1.false) v s
           ∙ ap (λ (n : RawNode). Some (eqb (of_z w64 n.number) 1)) (sym f.1),

@@ -6,13 +6,13 @@ use Rattle.tree.proofs.tree.Tree.integer.Goals as goal
 
 pub returns-then-raw-ne2 : goal.returns-then-raw-ne2
 returns-then-raw-ne2 c =
-    let f = c.in-ok-raw.ensures in
+    let f = c.in_ok-raw.ensures in
     (f.0, integer_none _ _ _ (λ e. c.if-raw-ne2.true (ap (λ (n : RawNode). n.kind) f.1 ∙ e)))
 
 pub returns : goal.returns
 returns c =
-    let f = c.in-ok-raw.ensures in
-    let fits : SFits w64 c.in-ok-raw.raw.number = search rules in (
+    let f = c.in_ok-raw.ensures in
+    let fits : SFits w64 c.in_ok-raw.raw.number = search rules in (
       f.0,
       λ v s. integer_some _ _ _ (sym (ap (λ (n : RawNode). n.kind) f.1) ∙ c.if-raw-ne2.false) v s
           ∙ ap (λ (n : RawNode). Some n.number) (sym f.1) ∙ ap Some (sym (to_z-of_z w64 _ fits)),
