@@ -9,7 +9,7 @@ use Rattle.tree_rule.proofs.Refused.{refused_not_formed}
 use Rattle.tree.proofs.checking.check.Goals as goal
 
 pub invariant_of-result : goal.invariant_of-result
-invariant_of-result c = (∣ c.in-Ok.ensures ∣₁, tt)
+invariant_of-result c = record { formed = ∣ c.in-Ok.ensures ∣₁ }
 
 pub returns-in-Ok : goal.returns-in-Ok
 returns-in-Ok c =

@@ -2,4 +2,4 @@ use Rattle.tree.proofs.Lone.{lone_formed}
 use Rattle.tree.proofs.checking.nothing.Goals as goal
 
 pub invariant_of-result : goal.invariant_of-result
-invariant_of-result c = (∣ lone_formed ∣₁, tt)
+invariant_of-result c = record { formed = ∣ lone_formed ∣₁ }
