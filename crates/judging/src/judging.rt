@@ -19,8 +19,8 @@ pub fn judge_all<E: Engine>(
     whole: &[u8],
     texts: &[TextRange],
 ) -> Result<(), Refused<E::Fault>>
-    ensures first { Judged (verdict engine.old) whole.now texts.now result }
-    ensures kept { (t : List ℕ) → verdict engine.new t ≡ verdict engine.old t }
+    ensures first { Judged (E.verdict engine.old) whole.now texts.now result }
+    ensures kept { (t : List ℕ) → E.verdict engine.new t ≡ E.verdict engine.old t }
 {
     for (number, range) in texts.iter().enumerate() {
         let Some(text) = range.of(whole) else {
@@ -35,8 +35,8 @@ pub fn judge_all<E: Engine>(
 
 /// The number of a text's fault, or 0 if it is fine.
 pub fn judge_number<E: Engine>(engine: &mut E, text: &[u8]) -> u8
-    ensures number { result ≡ number_of Fault-as-Numbered.numbered (verdict engine.old text.now) }
-    ensures kept { (t : List ℕ) → verdict engine.new t ≡ verdict engine.old t }
+    ensures number { result ≡ number_of E.Fault.numbered (E.verdict engine.old text.now) }
+    ensures kept { (t : List ℕ) → E.verdict engine.new t ≡ E.verdict engine.old t }
 {
     match engine.judge(text) {
         Ok(()) => 0,

@@ -35,9 +35,9 @@ pub fn record_verdicts<E: Engine>(
     texts: &[TextRange],
     entries: &mut Buffer<Entry>,
 ) -> Result<(), Untaken>
-    ensures taken { TakenDown (λ t. number_of Fault-as-Numbered.numbered (verdict engine.old t)) whole.now texts.now result entries.new.items.items }
-    ensures agrees { Agreed (λ t. number_of Fault-as-Numbered.numbered (verdict engine.old t)) whole.now texts.now result entries.new.items.items }
-    ensures kept { (t : List ℕ) → verdict engine.new t ≡ verdict engine.old t }
+    ensures taken { TakenDown (λ t. number_of E.Fault.numbered (E.verdict engine.old t)) whole.now texts.now result entries.new.items.items }
+    ensures agrees { Agreed (λ t. number_of E.Fault.numbered (E.verdict engine.old t)) whole.now texts.now result entries.new.items.items }
+    ensures kept { (t : List ℕ) → E.verdict engine.new t ≡ E.verdict engine.old t }
 {
     entries.clear();
     for (number, range) in texts.iter().enumerate() {

@@ -6,6 +6,6 @@ use Rattle.flow.proofs.reader.read_leaf.Goals as goal
 pub returns-in-34 : goal.returns-in-34
 returns-in-34 c =
     record {
-      range = c.read-scalar.ensures.range;
-      reads = IfOk-weaker c.read-scalar.result _ _ (λ end r. key_value c.args.input.now c.args.place end _ _ _ _ r) c.read-scalar.ensures.reads;
+      range = c.read_scalar.ensures.range;
+      reads = IfOk-weaker c.read_scalar.result _ _ (λ end r. key_value c.args.input.now c.args.place end _ _ _ _ r) c.read_scalar.ensures.reads;
     }

@@ -18,19 +18,19 @@ returns c =
         added = _;
         more = [];
         is = word (word_behind c.args.input.now c.args.place c.in-Some.width c.behind.result.now _ _ c.behind.ensures w.is);
-        pushed = pushed_node _ _ _ _ _ 0 0 0 0 _ c.in-Some.number c.push-node.result c.in-ok-placed.ensures refl c.args.arrays.now.nodes.ok.0 refl refl (word_number w.is) c.push-node.ensures.nodes;
-        written = ap vec_items c.push-node.ensures.text ∙ sym (append-nil _);
+        pushed = pushed_node _ _ _ _ _ 0 0 0 0 _ c.in-Some.number c.push_node.result c.in_ok-placed.ensures refl c.args.arrays.now.nodes.ok.0 refl refl (word_number w.is) c.push_node.ensures.nodes;
+        written = ap vec_items c.push_node.ensures.text ∙ sym (append-nil _);
       };
     }
 
-pub returns-in-default : goal.returns-in-default
-returns-in-default c =
+pub returns-in_default : goal.returns-in_default
+returns-in_default c =
     record {
       range = (
         omega arith,
         (
-          subst (λ (bs : List ℕ). Wordless bs) c.behind.ensures c.in-default.ensures.is,
-          subst (λ (b : ℕ). Startless b) (sym (front c.args.input.now c.args.place (omega arith))) c.requires.1,
+          subst (λ (bs : List ℕ). Wordless bs) c.behind.ensures c.in_default.ensures.is,
+          subst (λ (b : ℕ). Startless b) (sym (front c.args.input.now c.args.place (omega arith))) c.requires.startless,
         ),
       );
       reads = tt;

@@ -5,12 +5,12 @@ use Rattle.flow.proofs.scalars.behind_digits.Goals as goal
 
 pub loop-end-preserved : goal.loop-end-preserved
 loop-end-preserved c =
-    let more = prefix_len-drop_yes is_ascii_digit c.args.input.now c.loop-end.end 0 (omega arith) (sym c.if-is-ascii-digit.ensures.value) in
+    let more = prefix_len-drop_yes is_ascii_digit c.args.input.now c.loop-end.end 0 (omega arith) (sym c.if-is_ascii_digit.ensures.value) in
     (omega arith, omega arith, omega (arith, more, c.loop-end.invariant.2))
 
-pub returns-else-is-ascii-digit : goal.returns-else-is-ascii-digit
-returns-else-is-ascii-digit c =
-    let none = prefix_len-drop_no is_ascii_digit c.args.input.now c.loop-end.end 0 (omega arith) (sym c.if-is-ascii-digit.ensures.value) in
+pub returns-else-is_ascii_digit : goal.returns-else-is_ascii_digit
+returns-else-is_ascii_digit c =
+    let none = prefix_len-drop_no is_ascii_digit c.args.input.now c.loop-end.end 0 (omega arith) (sym c.if-is_ascii_digit.ensures.value) in
     record { range = (omega arith, omega arith); is = omega (arith, none, c.loop-end.invariant.2) }
 
 pub returns-after-loop-end : goal.returns-after-loop-end

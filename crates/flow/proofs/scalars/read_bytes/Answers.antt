@@ -17,17 +17,17 @@ returns-then-input-place-eq34 c =
       );
     }
 
-pub read-piece-requires : goal.read-piece-requires
-read-piece-requires c = omega (arith, ap length c.behind.ensures, length-drop c.loop-place.place c.args.input.now)
+pub read_piece-requires : goal.read_piece-requires
+read_piece-requires c = omega (arith, ap length c.behind.ensures, length-drop c.loop-place.place c.args.input.now)
 
 pub loop-place-preserved : goal.loop-place-preserved
 loop-place-preserved c =
     let i = c.loop-place.invariant.3 in
-    let w = wrote_ok c.read-piece.result _ (vec_items c.loop-place.arrays.text) (vec_items c.read-piece.new.arrays.text) c.in-ok-place.ensures c.read-piece.ensures.text in
-    let r = wide_ok c.read-piece.result c.in-ok-place.ensures c.read-piece.ensures.range in (
+    let w = wrote_ok c.read_piece.result _ (vec_items c.loop-place.arrays.text) (vec_items c.read_piece.new.arrays.text) c.in_ok-place.ensures c.read_piece.ensures.text in
+    let r = wide_ok c.read_piece.result c.in_ok-place.ensures c.read_piece.ensures.range in (
       omega arith,
       omega (arith, r.1, ap length c.behind.ensures, length-drop c.loop-place.place c.args.input.now),
-      c.read-piece.ensures.nodes ∙ c.loop-place.invariant.2,
+      c.read_piece.ensures.nodes ∙ c.loop-place.invariant.2,
       (
         i.0 ++ w.0,
         w.2 ∙ ap (λ xs. xs ++ w.0) i.1 ∙ append_assoc (vec_items c.args.arrays.now.text) i.0 w.0,

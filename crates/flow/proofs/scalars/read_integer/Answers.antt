@@ -9,22 +9,22 @@ use Rattle.flow.proofs.scalars.read_integer.Goals as goal
 
 pub returns : goal.returns
 returns c =
-    let same : c.in-Ok.digits.now ≡ take (c.behind-digits-end.result - c.args.place) (drop c.args.place c.args.input.now) = c.in-Ok.ensures.cases.0 in
+    let same : c.in-Ok.digits.now ≡ take (c.behind_digits-end.result - c.args.place) (drop c.args.place c.args.input.now) = c.in-Ok.ensures.cases.0 in
     record {
       range = (omega arith, omega arith);
       reads = record {
         added = _;
         more = [];
-        is = integer (integer_read c.args.input.now c.args.place c.behind-digits-end.result c.parse.result _ (omega arith) (omega arith)
-            (subst (λ (bs : List ℕ). ParsesSigned w64 10 bs c.parse.result) same c.parse.ensures.value.0) c.in-Ok-parse.is (no_plus _ c.requires.1));
-        pushed = pushed_node _ _ _ _ 2 0 0 0 0 _ c.in-Ok-parse.number c.push-node.result c.in-ok-placed.ensures refl c.args.arrays.now.nodes.ok.0 refl refl
-            (number_kept c.in-Ok.digits.now c.parse.result _ c.parse.ensures.value.0 c.in-Ok-parse.is) c.push-node.ensures.nodes;
-        written = ap vec_items c.push-node.ensures.text ∙ sym (append-nil _);
+        is = integer (integer_read c.args.input.now c.args.place c.behind_digits-end.result c.parse.result _ (omega arith) (omega arith)
+            (subst (λ (bs : List ℕ). ParsesSigned w64 10 bs c.parse.result) same c.parse.ensures.value.0) c.in-Ok-parse.is (no_plus _ c.requires.fact));
+        pushed = pushed_node _ _ _ _ 2 0 0 0 0 _ c.in-Ok-parse.number c.push_node.result c.in_ok-placed.ensures refl c.args.arrays.now.nodes.ok.0 refl refl
+            (number_kept c.in-Ok.digits.now c.parse.result _ c.parse.ensures.value.0 c.in-Ok-parse.is) c.push_node.ensures.nodes;
+        written = ap vec_items c.push_node.ensures.text ∙ sym (append-nil _);
       };
     }
 
-pub returns-in-default : goal.returns-in-default
-returns-in-default c = record { range = (omega arith, number_front c.args.input.now c.args.place (omega arith) c.requires.1); reads = tt }
+pub returns-in_default : goal.returns-in_default
+returns-in_default c = record { range = (omega arith, number_front c.args.input.now c.args.place (omega arith) c.requires.fact); reads = tt }
 
-pub returns-in-default-parse : goal.returns-in-default-parse
-returns-in-default-parse c = record { range = (omega arith, number_front c.args.input.now c.args.place (omega arith) c.requires.1); reads = tt }
+pub returns-in_default-parse : goal.returns-in_default-parse
+returns-in_default-parse c = record { range = (omega arith, number_front c.args.input.now c.args.place (omega arith) c.requires.fact); reads = tt }

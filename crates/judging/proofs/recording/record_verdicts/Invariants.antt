@@ -8,7 +8,7 @@ use Rattle.judging.proofs.recording.record_verdicts.Given as goal
 abbrev pub invariant-loop-number : goal.invariant-loop-number
 invariant-loop-number g l =
     ThereBelow l.whole l.texts l.number
-    × Writing [] (entries_for (λ t. number_of g.Fault.Numbered.numbered (g.E.Engine.verdict l.initial.engine t)) l.whole l.texts)
+    × Writing [] (entries_for (λ t. number_of g.E.Fault.Numbered.numbered (g.E.Engine.verdict l.initial.engine t)) l.whole l.texts)
     (vec_items l.entries.items)
-    (entries_for (λ t. number_of g.Fault.Numbered.numbered (g.E.Engine.verdict l.initial.engine t)) l.whole (drop l.number l.texts))
+    (entries_for (λ t. number_of g.E.Fault.Numbered.numbered (g.E.Engine.verdict l.initial.engine t)) l.whole (drop l.number l.texts))
     × ((t : List ℕ) → g.E.Engine.verdict l.engine t ≡ g.E.Engine.verdict l.initial.engine t)

@@ -6,19 +6,19 @@ use Rattle.flow.proofs.arrays.Arrays.read.Goals as goal
 
 pub loop-place-init : goal.loop-place-init
 loop-place-init c = (
-  c.behind-blanks-place.ensures.range.1,
-  blanks_here c.args.input.now Value (reverse (vec_items c.new.result)) 0 c.behind-blanks-place.result (vec_items c.clear.new.self) (vec_items c.clear-2.new.self)
-      c.behind-blanks-place.ensures.is
+  c.behind_blanks-place.ensures.range.1,
+  blanks_here c.args.input.now Value (reverse (vec_items c.new.result)) 0 c.behind_blanks-place.result (vec_items c.clear.new.self) (vec_items c.clear-2.new.self)
+      c.behind_blanks-place.ensures.is
       (moved c.args.input.now Value Value [] (reverse (vec_items c.new.result)) c.args.input.now [] (vec_items c.clear.new.self) [] (vec_items c.clear-2.new.self)
       refl (ap reverse c.new.ensures.items) c.clear.ensures.items c.clear-2.ensures.items (started c.args.input.now)),
 )
 
 pub loop-place-preserved : goal.loop-place-preserved
 loop-place-preserved c = (
-  c.behind-blanks-place-in-loop-place.ensures.range.1,
-  blanks_here c.args.input.now c.read-token.new.self.wants (reverse (vec_items c.read-token.new.self.«open»)) c.in-ok-behind.behind c.behind-blanks-place-in-loop-place.result
-      (vec_items c.read-token.new.arrays.nodes) (vec_items c.read-token.new.arrays.text) c.behind-blanks-place-in-loop-place.ensures.is
-      (c.in-ok-behind.ensures.sofar c.loop-place.invariant.1),
+  c.behind_blanks-place-in-loop-place.ensures.range.1,
+  blanks_here c.args.input.now c.read_token.new.self.wants (reverse (vec_items c.read_token.new.self.«open»)) c.in_ok-behind.behind c.behind_blanks-place-in-loop-place.result
+      (vec_items c.read_token.new.arrays.nodes) (vec_items c.read_token.new.arrays.text) c.behind_blanks-place-in-loop-place.ensures.is
+      (c.in_ok-behind.ensures.sofar c.loop-place.invariant.1),
 )
 
 pub returns-in-Nothing : goal.returns-in-Nothing

@@ -11,13 +11,13 @@ returns-in-Some c =
     sym (ap (λ xs. after_comma (reverse xs)) (sym c.deref.ensures.value)
     ∙ last_wants c.deref.result.now c.in-Some.open.now item.3.0 item.1 ∙ ap (λ b. cond b Key Value) c.if-open.true)
 
-pub returns-in-default : goal.returns-in-default
-returns-in-default c =
+pub returns-in_default : goal.returns-in_default
+returns-in_default c =
     let item = c.in-Some.ensures.item in
     sym (ap (λ xs. after_comma (reverse xs)) (sym c.deref.ensures.value)
     ∙ last_wants c.deref.result.now c.in-Some.open.now item.3.0 item.1 ∙ ap (λ b. cond b Key Value) c.if-open.false)
 
-pub returns-in-default·2 : goal.returns-in-default·2
-returns-in-default·2 c =
-    let item = c.in-default.ensures.item in
+pub returns-in_default-2 : goal.returns-in_default-2
+returns-in_default-2 c =
+    let item = c.in_default.ensures.item in
     sym (ap (λ xs. after_comma (reverse xs)) (sym c.deref.ensures.value) ∙ no_last c.deref.result.now (omega (arith, ltb-false _ _ (sym item.0))))

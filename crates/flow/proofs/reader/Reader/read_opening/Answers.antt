@@ -5,10 +5,10 @@ use Rattle.flow.proofs.reader.Reader.read_opening.Goals as goal
 
 pub returns : goal.returns
 returns c =
-    let e = c.in-ok-placed.ensures in
+    let e = c.in_ok-placed.ensures in
     record {
       range = (omega arith, omega arith);
-      sofar = opens_here c.args.is_map c.args.input.now c.args.place _ (vec_items c.args.self.now.open) _ _ _ _ _ _ (omega arith) c.requires.1
+      sofar = opens_here c.args.is_map c.args.input.now c.args.place _ (vec_items c.args.self.now.open) _ _ _ _ _ _ (omega arith) c.requires.place_value
           c.args.arrays.now.nodes.ok.0 (IfOk-at_ok _ e c.enter.ensures.«open») (IfOk-at_ok _ e c.enter.ensures.nodes)
           (ap vec_items c.enter.ensures.text) (IfOk-at_ok _ e c.enter.ensures.wants);
     }
