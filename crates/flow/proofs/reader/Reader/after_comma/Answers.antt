@@ -19,5 +19,5 @@ returns-in_default c =
 
 pub returns-in_default-2 : goal.returns-in_default-2
 returns-in_default-2 c =
-    let item = c.in_default.ensures.item in
+    let item = rw c.in_default.is at c.last.ensures.item in
     sym (ap (λ xs. after_comma (reverse xs)) (sym c.deref.ensures.value) ∙ no_last c.deref.result.now (omega (arith, ltb-false _ _ (sym item.0))))
