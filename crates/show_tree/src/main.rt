@@ -60,8 +60,9 @@ fn next_mark(input: &[u8], from: usize) -> usize
 fn line_of(input: &[u8], place: usize) -> usize
     ensures { result ≡ 1 + count_by is_line_feed (take place input.now) }
 {
+    let end = place.min(input.len());
     let mut line = 1;
-    for index in 0..place.min(input.len()) {
+    for index in 0..end {
         if input[index] == b'\n' {
             line += 1;
         }

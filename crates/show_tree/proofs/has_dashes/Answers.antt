@@ -8,5 +8,5 @@ use Rattle.show_tree.proofs.has_dashes.Goals as goal
 pub returns : goal.returns
 returns c =
     let part = take (length c.args.input.now - c.args.place) (drop c.args.place c.args.input.now) in
-    same_from_decides _ _ (slice_eq-Decides Decides-eqb (codes "---") (take 3 part) _ c.starts-with.ensures.value) (bytes_eq-Decides (codes "---") (take 3 part))
+    same_from_decides _ _ (slice_eq-Decides Decides-eqb (codes "---") (take 3 part) _ c.starts_with.ensures.value) (bytes_eq-Decides (codes "---") (take 3 part))
     ∙ ap (λ bs. bytes_eq (codes "---") (take 3 bs)) (take_rest c.args.input.now c.args.place)

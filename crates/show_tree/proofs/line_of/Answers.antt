@@ -6,8 +6,8 @@ use Rattle.show_tree.specs.Lines.{is_line_feed}
 use Rattle.show_tree.proofs.line_of.Goals as goal
 use Rattle.show_tree.proofs.line_of.Goals.{then-input-index-eq10, else-input-index-eq10}
 
-pub overflow-add-line : goal.overflow-add-line
-overflow-add-line c =
+pub overflow_add-line : goal.overflow_add-line
+overflow_add-line c =
     let few = count_by-le-length is_line_feed (take c.loop-index.index c.args.input.now) in
     let long = length-take-le c.loop-index.index c.args.input.now (omega arith) in
     record { fits = omega (arith, few, long, c.loop-index.invariant.2) }

@@ -4,4 +4,4 @@ use Rattle.show_tree.proofs.line_of.Given as goal
 
 abbrev pub invariant-loop-index : goal.invariant-loop-index
 invariant-loop-index l =
-    (l.place ≤ length l.input) × (l.index ≤ l.place) × (l.line ≡ 1 + count_by is_line_feed (take l.index l.input))
+    (l.end ≤ length l.input) × (l.index ≤ l.end) × (l.line ≡ 1 + count_by is_line_feed (take l.index l.input))

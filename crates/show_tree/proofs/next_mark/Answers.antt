@@ -5,7 +5,7 @@ use Rattle.show_tree.proofs.next_mark.Goals as goal
 
 pub loop-place-preserved : goal.loop-place-preserved
 loop-place-preserved c =
-    let none = sym c.is-mark.ensures ∙ c.if-is-mark.false in (
+    let none = sym c.is_mark.ensures ∙ c.if-is_mark.false in (
       omega arith,
       omega arith,
       λ k a b.
