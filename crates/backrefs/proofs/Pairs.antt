@@ -1,12 +1,12 @@
 -- Laws of the escapes of a pattern.
-use Rattle.std.proofs.Common.{◌≡◌, ℕ, suc, pred, ◌+◌, ◌-◌, ◌<◌, ◌≤◌, Bool, true, false, cond, ◌&&◌, ◌||◌, eqb, List, [], ◌∷◌, ◌++◌, length, take, drop, Some, None, Option, sym, refl, ap, ◌∙◌, arith, length-drop}
+use Rattle.std.proofs.Common.{◌≡◌, ℕ, pred, Bool, true, false, cond, eqb, List, [], ◌∷◌, ◌++◌, length, drop, Some, None, sym, refl, ap, ◌∙◌, arith, length-drop}
 use Rattle.std.specs.List.{flat_map}
 use Rattle.std.proofs.lemmas.Bool.{cond-true, cond-false, eq-eqb, ne_eqb, eqb-true}
 use Rattle.backrefs.specs.declared.backrefs.Pair.{Pair as Read}
 use Rattle.backrefs.specs.declared.backrefs.Pair.TheVariants.{Escaped, Single}
 use Rattle.tokens.specs.Cursor.{front}
 use Rattle.tokens.specs.Cut.{past_front, Honest}
-use Rattle.backrefs.specs.Backrefs.{Pair, escaped, single, spelled_pair, escaped_or, first_pair, pairs, is_backref, any_backref, has_backref, put, substituted}
+use Rattle.backrefs.specs.Backrefs.{Pair, escaped, single, spelled_pair, first_pair, pairs}
 use Rattle.backrefs.specs.Pairs.{meant_pair, TakenPair}
 use Rattle.tokens.proofs.Cut.{cut_nil, cut_cons, cut_joined}
 use Rattle.tokens.proofs.Tokens.{none_some}

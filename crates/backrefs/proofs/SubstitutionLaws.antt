@@ -1,5 +1,5 @@
 -- A pattern that a substitution leaves as it is.
-use Rattle.std.proofs.Common.{◌≡◌, ℕ, Bool, true, false, cond, List, [], ◌∷◌, Option, refl, ◌∙◌}
+use Rattle.std.proofs.Common.{◌≡◌, ℕ, false, List, [], ◌∷◌, Option, refl, ◌∙◌}
 use Rattle.std.specs.List.{AllByRecursion as All}
 use Rattle.std.proofs.lemmas.Bool.{cond-false, or_parts}
 use Rattle.backrefs.specs.Backrefs.{Pair, escaped, single, spelled_pair, pairs, digit, any_backref, has_backref, put, substituted}

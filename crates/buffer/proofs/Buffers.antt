@@ -1,5 +1,5 @@
 -- Laws of buffers.
-use Rattle.std.proofs.Common.{ℕ, ◌≤◌, length, vec_items, arith}
+use Rattle.std.proofs.Common.{◌≤◌, length, vec_items, arith}
 use Rattle.buffer.specs.declared.Buffer.{Buffer}
 
 -- no buffer holds more than the limit

@@ -1,12 +1,12 @@
 -- Laws of the bracket engine's rule, over units.
 use Rattle.std.proofs.Common.{◌≡◌, ℕ, zero, suc, ◌+◌, ◌-◌, ◌<◌, ◌≤◌, Bool, true, false, cond, ◌||◌, eqb, ltb, ◌⊎◌, List, [], ◌∷◌, ◌++◌, length, take, Some, None, Option, sym, refl, ap, ◌∙◌, subst, inl, inr, ⊎_elim, arith}
 use Rattle.std.proofs.lemmas.List.{take_all}
-use Rattle.std.proofs.lemmas.Bool.{cond-true, cond-false, ltb-true, ltb-false, lt-ltb, le-ltb, eqb-true, eq-eqb, ne_eqb, cases_lt, cases_eq, cases_Bool, or_parts, or_cases, or_right}
+use Rattle.std.proofs.lemmas.Bool.{cond-true, cond-false, ltb-true, ltb-false, lt-ltb, le-ltb, eqb-true, eq-eqb, ne_eqb, cases_lt, cases_eq, or_parts, or_cases, or_right}
 use borrow.Author.Tests.{clash}
 use Rattle.tokens.specs.Tokens.{Token, escape, final, class, comment, plain, is_closed}
 use Rattle.engine.specs.declared.bracket.BracketFault.{BracketFault}
 use Rattle.engine.specs.declared.bracket.BracketFault.TheVariants.{Unopened, Unclosed, UnclosedClass, FinalBackslash}
-use Rattle.engine.specs.Brackets.{opens, closes, count, openings, closings, leaves, Overclosed, NeverOverclosed, Ends, Ruled, some_prefix, last_leaves, fault_from, fault_in, fault_at_end, depth_after}
+use Rattle.engine.specs.Brackets.{opens, closes, openings, closings, leaves, NeverOverclosed, Ends, Ruled, some_prefix, last_leaves, fault_from, fault_in, fault_at_end, depth_after}
 
 -- units that somewhere close more groups than are open, of `depth` before them
 abbrev pub falls : ℕ → List Token → Bool

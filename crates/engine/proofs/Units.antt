@@ -1,12 +1,12 @@
 -- Laws of the units of a text.
-use Rattle.std.proofs.Common.{◌≡◌, ℕ, suc, pred, ◌+◌, ◌-◌, ◌<◌, ◌≤◌, Bool, true, false, cond, ◌&&◌, eqb, List, [], ◌∷◌, ◌++◌, length, take, drop, Some, None, Option, sym, refl, ap, ◌∙◌, subst, arith, length-drop}
+use Rattle.std.proofs.Common.{◌≡◌, ℕ, pred, Bool, true, false, cond, ◌&&◌, eqb, List, [], ◌∷◌, ◌++◌, length, take, drop, Some, None, Option, sym, refl, ap, ◌∙◌, subst, arith, length-drop}
 use Rattle.std.specs.List.{flat_map}
-use Rattle.std.proofs.lemmas.Bool.{cond-true, cond-false, eq-eqb, ne_eqb, eqb-true, and_parts}
+use Rattle.std.proofs.lemmas.Bool.{cond-false, ne_eqb, eqb-true, and_parts}
 use borrow.Author.Tests.{clash}
 use Rattle.tokens.specs.declared.parser.Token.{Token as Read}
 use Rattle.tokens.specs.declared.parser.Token.TheVariants.{Plain}
 use Rattle.tokens.specs.Classes.{opened}
-use Rattle.tokens.specs.Cut.{cut, past_front, Honest}
+use Rattle.tokens.specs.Cut.{past_front, Honest}
 use Rattle.tokens.specs.Reads.{meant, Taken, Told, Next}
 use Rattle.tokens.specs.Tokens.{Token, class, comment, plain, spelled, first, escaping, opens_comment, class_length, comment_length}
 use Rattle.tokens.proofs.Cut.{cut_nil, cut_cons, cut_joined}

@@ -1,17 +1,16 @@
 -- Text that leaves nothing open, put before another: the units are those of both.
-use Rattle.std.proofs.Common.{◌≡◌, ℕ, zero, suc, pred, ◌+◌, ◌-◌, ◌<◌, ◌≤◌, Bool, true, false, cond, eqb, List, [], ◌∷◌, ◌++◌, length, take, drop, Some, None, Option, sym, refl, ap, ◌∙◌, subst, arith, length-drop, length-take}
+use Rattle.std.proofs.Common.{◌≡◌, ℕ, zero, suc, pred, ◌≤◌, Bool, true, false, cond, eqb, List, [], ◌∷◌, ◌++◌, length, take, drop, Some, None, Option, sym, refl, ap, ◌∙◌, arith, length-drop, length-take}
 use Rattle.std.proofs.lemmas.List.{take_all, drop_all, take-append-le, drop-append-le}
-use Rattle.std.proofs.lemmas.Bool.{cond-true, cond-false}
 use borrow.Author.Tests.{clash}
 use Rattle.tokens.specs.declared.class.ClassWalker.{ClassWalker}
 use Rattle.tokens.specs.Classes.{opened, stepped, closes}
-use Rattle.tokens.specs.Cut.{cut, past_front}
-use Rattle.tokens.specs.Tokens.{Token, escape, final, class, plain, spelled, escaping, class_length, closed_in, is_closed}
+use Rattle.tokens.specs.Cut.{past_front}
+use Rattle.tokens.specs.Tokens.{Token, class, plain, spelled, escaping, class_length, closed_in}
 use Rattle.tokens.proofs.Classes.{closed_taken}
 use Rattle.tokens.proofs.Cut.{cut_nil, cut_cons}
 use Rattle.engine.specs.declared.bracket.BracketFault.{BracketFault}
 use Rattle.engine.specs.declared.bracket.BracketFault.TheVariants.{UnclosedClass, FinalBackslash}
-use Rattle.engine.specs.Brackets.{leaves, last_leaves, openings, closings, fault_from, fault_in}
+use Rattle.engine.specs.Brackets.{leaves, last_leaves, fault_from, fault_in}
 use Rattle.engine.specs.Units.{first_unit, units}
 use Rattle.engine.proofs.BracketLaws.{none_is_some, fault_append, fine_parts}
 

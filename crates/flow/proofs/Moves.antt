@@ -1,5 +1,5 @@
 -- The steps of the reader, by places of the input.
-use Rattle.std.proofs.Common.{◌≡◌, ℕ, ◌+◌, ◌<◌, ◌≤◌, Bool, true, List, [], ◌∷◌, ◌++◌, reverse, length, get_or, drop, pos, IfOk, Ok, Err, Result, sym, refl, ap, ◌∙◌, subst}
+use Rattle.std.proofs.Common.{◌≡◌, ℕ, ◌+◌, ◌<◌, ◌≤◌, Bool, List, [], ◌∷◌, ◌++◌, reverse, length, get_or, drop, pos, IfOk, Ok, Err, Result, sym, refl, ap, ◌∙◌, subst}
 use Rattle.std.specs.List.{prefix_len}
 use Rattle.std.proofs.lemmas.List.{drop_all, drop-drop, drop_more}
 use Rattle.flow.specs.Scalars.{is_blank}
@@ -9,7 +9,7 @@ use Rattle.flow.specs.declared.reader.Open.{Open}
 use Rattle.flow.specs.declared.misread.Misread.{Misread}
 use Rattle.flow.specs.declared.reader.Wants.{Wants}
 use Rattle.flow.specs.declared.reader.Wants.TheVariants.{Value as WantsValue, Colon, Nothing}
-use Rattle.flow.specs.Flow.{Key, Value, Item, Bound, Document, opening, closing, kind_of, key}
+use Rattle.flow.specs.Flow.{Key, Value, Bound, Document, opening, closing, kind_of, key}
 use Rattle.flow.specs.Places.{Read}
 use Rattle.flow.specs.Sofar.{Settled, Awaits, AwaitsMore, AwaitsFirst, Keeps, Sofar, Left, settled_wants, after_comma, first_wants, opened, ending_here}
 use Rattle.flow.proofs.Opens.{reverse_push}

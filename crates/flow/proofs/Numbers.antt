@@ -1,12 +1,12 @@
 -- What an integer's bytes parse to is what the flow form says.
-use Rattle.std.proofs.Common.{◌≡◌, ℕ, ◌+◌, ◌-◌, ◌<◌, ◌≤◌, true, List, [], ◌∷◌, ◌++◌, length, get_or, take, drop, ℤ, pos, neg_ℤ, Ok, Err, Result, sym, refl, ap, ◌∙◌, subst, ⊎_elim, arith, to_z-of_z, w64, SFits, to_z, of_z, rules}
+use Rattle.std.proofs.Common.{◌≡◌, ℕ, ◌+◌, ◌-◌, ◌<◌, ◌≤◌, true, List, ◌∷◌, ◌++◌, length, get_or, take, drop, ℤ, pos, neg_ℤ, Ok, Result, sym, refl, ap, ◌∙◌, subst, ⊎_elim, arith, to_z-of_z, w64, SFits, to_z, of_z, rules}
 use Rattle.std.specs.Str.Parse.{ParsesSigned}
 use Rattle.std.specs.Str.{all_ascii_digits}
 use Rattle.std.proofs.lemmas.List.{drop_more, drop-drop, take-append-drop, drop-append-le, get_or-take, length-take-le, length-drop}
 use Rattle.std.proofs.lemmas.Str.Parse.{IsNumeralModel, numerals_by_fold, parse_signed_minus, parse_signed_plain}
 use Rattle.std.proofs.lemmas.Result.{OkIff-at_ok}
 use Rattle.std.proofs.lemmas.Bool.{cases_eq}
-use Rattle.flow.specs.Scalars.{decimal, Digits, Integer, plain, minus}
+use Rattle.flow.specs.Scalars.{decimal, Integer, plain, minus}
 
 -- what was parsed is what its bits say
 pub number_kept : {E : Type 0} (bs : List ℕ) (r : Result ℤ E) (z : ℤ) → ParsesSigned w64 10 bs r → r ≡ Ok z → to_z w64 (of_z w64 z) ≡ z

@@ -1,5 +1,5 @@
 -- The open lists and maps, of which the last is the innermost.
-use Rattle.std.proofs.Common.{◌≡◌, ℕ, ◌-◌, ◌<◌, Bool, true, false, cond, List, [], ◌∷◌, ◌++◌, reverse, length, get_or, sym, refl, ap, ◌∙◌, arith}
+use Rattle.std.proofs.Common.{◌≡◌, ◌-◌, ◌<◌, Bool, true, false, cond, List, [], ◌∷◌, ◌++◌, reverse, length, get_or, sym, refl, ap, ◌∙◌, arith}
 use mathlib.Core.Bool.{beq}
 use Rattle.std.proofs.lemmas.List.{length_push, length-reverse, nil_from_length, same_from_push, reverse-append, get_or-reverse}
 use Rattle.std.proofs.lemmas.Bool.{false≢true, true≢false}

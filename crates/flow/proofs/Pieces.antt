@@ -1,5 +1,5 @@
 -- What stands at the front of a string.
-use Rattle.std.proofs.Common.{◌≡◌, ℕ, ◌+◌, ◌<◌, ◌≤◌, Bool, true, false, List, [], ◌∷◌, ◌++◌, length, get_or, drop, pos, IfOk, Some, None, Ok, Err, Option, Result, sym, refl, ap, ◌∙◌, subst, arith}
+use Rattle.std.proofs.Common.{◌≡◌, ℕ, ◌+◌, ◌<◌, ◌≤◌, Bool, true, false, List, [], ◌∷◌, ◌++◌, length, get_or, drop, pos, IfOk, Some, None, Ok, Option, Result, sym, refl, ap, ◌∙◌, subst, arith}
 use lib.Utf8.{scalar}
 use Rattle.tree_rule.specs.Nodes.{raw}
 use Rattle.flow.specs.Flow.{Key, string}

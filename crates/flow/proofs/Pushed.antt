@@ -1,5 +1,5 @@
 -- A node that was written, by what the flow form calls it.
-use Rattle.std.proofs.Common.{◌≡◌, ℕ, ◌+◌, List, [], ◌∷◌, ◌++◌, length, ℤ, Ok, Err, Result, ap, ◌∙◌, MatchResult}
+use Rattle.std.proofs.Common.{◌≡◌, ℕ, ◌+◌, List, [], ◌∷◌, ◌++◌, length, ℤ, Ok, Result, ap, ◌∙◌, MatchResult}
 use Rattle.std.proofs.lemmas.Result.{MatchResult-at_ok}
 use Rattle.tree_rule.specs.declared.node.RawNode.{RawNode}
 use Rattle.tree_rule.specs.Nodes.{raw}

@@ -1,6 +1,6 @@
 -- The flow form: which bytes are a document, and the nodes and the text of it.
 -- In each relation: the number of the next node, how long the text is so far, the bytes, what follows, the nodes, what is added to the text.
-use Rattle.std.specs.Prelude.{◌≡◌, ℕ, ◌+◌, Bool, true, false, cond, ◌&&◌, List, [], ◌∷◌, ◌++◌, length, ℤ, pos}
+use Rattle.std.specs.Prelude.{◌≡◌, ℕ, ◌+◌, Bool, true, false, ◌&&◌, List, [], ◌∷◌, ◌++◌, length, ℤ, pos}
 use Rattle.tree_rule.specs.declared.node.RawNode.{RawNode}
 use Rattle.tree_rule.specs.Nodes.{raw}
 use Rattle.flow.specs.Scalars.{is_blank, Integer, Inside, Word}

@@ -3,7 +3,7 @@ use Rattle.std.proofs.Common.{◌≡◌, ℕ, zero, suc, ◌<◌, Bool, true, fa
 use borrow.Author.Tests.{clash}
 use Rattle.std.proofs.lemmas.Bool.{and_parts, ltb-true, eqb-true, eq-eqb, lt-ltb, le-ltb, cond-true, cond-false}
 use Rattle.grammar.specs.Names.{Text, before}
-use Rattle.grammar.specs.Places.{At, In}
+use Rattle.grammar.specs.Places.{At}
 use Rattle.grammar.specs.Grammars.{Context, Grammar, ContextOf, precedes, ordered}
 use Rattle.grammar.proofs.Places.{at_same}
 

@@ -1,8 +1,8 @@
 -- What a grammar is. Names and scopes are texts and no numbers of tables, so that the value depends on no set.
-use Rattle.std.specs.Prelude.{◌≡◌, ℕ, Bool, true, false, ◌&&◌, List, [], ◌∷◌, ◌++◌, Some, None, Option}
+use Rattle.std.specs.Prelude.{◌≡◌, ℕ, Bool, true, ◌&&◌, List, [], ◌∷◌, ◌++◌, Some, None, Option}
 use Rattle.grammar.specs.declared.syntax_definition.ClearAmount.{ClearAmount}
 use Rattle.grammar.specs.Names.{Text, before}
-use Rattle.grammar.specs.Places.{At, In}
+use Rattle.grammar.specs.Places.{In}
 
 -- the texts of its atoms
 abbrev pub Scope : Type 0

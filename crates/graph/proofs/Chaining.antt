@@ -1,9 +1,8 @@
 -- Laws of the chains of pairs: one pair more, and what a pair of a chain says.
-use Rattle.std.proofs.Common.{◌≡◌, ℕ, zero, suc, ◌+◌, ◌<◌, ◌≤◌, Bool, true, false, cond, ◌&&◌, eqb, ltb, ◌⊎◌, List, [], ◌∷◌, ◌++◌, length, get_or, set, replicate, Some, None, Option, sym, refl, ap, ◌∙◌, inl, inr, ⊎_elim, add-one, arith}
+use Rattle.std.proofs.Common.{◌≡◌, ℕ, zero, suc, ◌+◌, ◌<◌, Bool, true, false, cond, ◌&&◌, eqb, ltb, List, [], ◌∷◌, ◌++◌, get_or, set, replicate, Some, None, Option, sym, refl, ap, ◌∙◌, ⊎_elim, add-one, arith}
 use Rattle.std.proofs.lemmas.List.{length-set, length_push, length-replicate, get_or_push, get_or_append_left, get_or-set_same, get_or-set_other, get_or-replicate, get_or_read_under}
-use Rattle.std.proofs.lemmas.Bool.{cond-true, cond-false, cond_both, cases_eq, cases_lt, eq-eqb, ne_eqb, eqb-true, ltb-true, lt-ltb, and_parts, and_from, cases_Bool}
+use Rattle.std.proofs.lemmas.Bool.{cond-true, cond-false, cases_eq, cases_lt, eq-eqb, ne_eqb, eqb-true, ltb-true, lt-ltb, and_parts, and_from}
 use Rattle.graph.specs.Chains.{in_range, goes_from, last_from, Chained}
-use Rattle.graph.specs.Reached.{Step}
 
 last_on : (n : ℕ) (E : ℕ → Option (ℕ × ℕ)) (j i : ℕ) → last_from n E (j + 1) i ≡ cond (goes_from (in_range n (E j)) i) (Some j) (last_from n E j i)
 last_on n E j i = ap (λ (x : ℕ). last_from n E x i) (add-one j)

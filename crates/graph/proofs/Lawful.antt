@@ -1,10 +1,10 @@
 -- The laws of marking.
-use Rattle.std.proofs.Common.{◌≡◌, ℕ, ◌<◌, Bool, true, false, ◌⊎◌, List, length, get_or, Some, None, Option, sym, refl, ap, ◌∙◌, subst, ⊎_elim, arith}
+use Rattle.std.proofs.Common.{◌≡◌, ℕ, Bool, false, List, length, get_or, Some, None, Option, sym, ap, ◌∙◌, ⊎_elim, arith}
 use borrow.Author.Tests.{clash}
 use Rattle.std.proofs.lemmas.List.{ext_get_or}
 use Rattle.std.proofs.lemmas.Bool.{cases_Bool}
-use Rattle.graph.specs.Reached.{Marked, Step, Reached, given, by, Marking}
-use Rattle.graph.specs.Laws.{Within, Reordered, turned, reversed, Path, here, on, From, Reaches, MoreMarksMarkMore, MorePairsMarkMore, MarkingTwiceChangesNothing, OrderOfPairsDoesNotMatter, MarkedAreThoseWithAPathFromAStart, ReversedMarkedAreThoseWithAPathToAStart, Laws}
+use Rattle.graph.specs.Reached.{Marked, Step, Reached, given, by}
+use Rattle.graph.specs.Laws.{Within, turned, reversed, Path, here, on, From, Reaches, MoreMarksMarkMore, MorePairsMarkMore, MarkingTwiceChangesNothing, OrderOfPairsDoesNotMatter, MarkedAreThoseWithAPathFromAStart, ReversedMarkedAreThoseWithAPathToAStart, Laws}
 use Rattle.graph.proofs.Spreads.{reached_from_reached}
 
 -- marks that are marked in one another are the same

@@ -1,11 +1,11 @@
 -- Laws of the queue of marked places: one place more in the list of marks, one place more that is marked.
-use Rattle.std.proofs.Common.{◌≡◌, ℕ, zero, suc, ◌+◌, ◌<◌, ◌≤◌, Bool, true, false, cond, not, ◌⊎◌, List, [], ◌∷◌, ◌++◌, length, get_or, take, set, sum_by, count_by, sym, refl, ap, ◌∙◌, subst, inl, inr, ⊎_elim, arith}
+use Rattle.std.proofs.Common.{◌≡◌, ℕ, ◌+◌, ◌<◌, Bool, true, false, cond, not, ◌⊎◌, List, [], ◌∷◌, ◌++◌, length, get_or, take, set, sym, refl, ap, ◌∙◌, subst, inl, inr, ⊎_elim, arith}
 use borrow.Author.Tests.{clash}
-use Rattle.std.proofs.lemmas.List.{length-set, length_push, length-take-le, take_more, get_or_past, get_or_push, get_or_append_left, get_or-append_right, get_or-set_same, get_or-set_other}
+use Rattle.std.proofs.lemmas.List.{length-set, length_push, length-take-le, take_more, get_or_past, get_or_push, get_or_append_left, get_or-set_same, get_or-set_other}
 use Rattle.std.proofs.lemmas.List.Sums.{sum_by_push, sum_by-set, get_or-le-sum_by}
 use Rattle.std.proofs.lemmas.Bool.{cases_eq, cases_lt}
 use Rattle.graph.specs.Reached.{Marked}
-use Rattle.graph.specs.Spreading.{Queued, Lined, Grown}
+use Rattle.graph.specs.Spreading.{Queued, Lined}
 
 pub marked_inside : (marks : List Bool) (k : ℕ) → Marked marks k → k < length marks
 marked_inside marks k h = ⊎_elim (λ l. l) (λ l. absurd (clash (sym (get_or_past marks k false l) ∙ h))) (cases_lt k (length marks))

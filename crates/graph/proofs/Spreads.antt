@@ -1,9 +1,9 @@
 -- Laws of marks that spread: one pair, one pair after another, the whole queue.
-use Rattle.std.proofs.Common.{◌≡◌, ℕ, ◌+◌, ◌<◌, ◌≤◌, Bool, true, false, cond, ◌⊎◌, List, [], ◌∷◌, ◌++◌, length, get_or, set, Some, None, Option, sym, refl, ap, ◌∙◌, subst, inl, inr, ⊎_elim, arith}
+use Rattle.std.proofs.Common.{◌≡◌, ℕ, ◌+◌, ◌<◌, Bool, true, false, cond, List, [], ◌∷◌, ◌++◌, length, get_or, set, Some, None, Option, sym, refl, ap, ◌∙◌, subst, ⊎_elim, arith}
 use Rattle.std.proofs.lemmas.List.{length-set, length_push, get_or_append_left, set-get_or}
 use Rattle.std.proofs.lemmas.Bool.{cases_Bool, cases_lt, cond-true, cond-false}
 use Rattle.graph.specs.Reached.{Marked, Step, Reached, given, by, Marking}
-use Rattle.graph.specs.Spreading.{Queued, Lined, Spreading, Grown, Spread}
+use Rattle.graph.specs.Spreading.{Lined, Spreading, Grown, Spread}
 use Rattle.graph.specs.Chains.{goes_from, in_range}
 use Rattle.graph.proofs.Chaining.{goes_from_lem, in_range_is, in_range_of, none_not_some, same_target}
 use Rattle.graph.proofs.Lining.{marked_set_same, marked_set, marked_unset, lined_set}

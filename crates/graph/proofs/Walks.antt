@@ -1,9 +1,9 @@
 -- The walk along the chain of one place.
-use Rattle.std.proofs.Common.{◌≡◌, ℕ, suc, ◌+◌, ◌<◌, ◌≤◌, Bool, true, false, ◌⊎◌, List, length, get_or, Some, None, Option, sym, refl, ap, ◌∙◌, subst, ⊎_elim, arith}
+use Rattle.std.proofs.Common.{◌≡◌, ℕ, suc, ◌<◌, ◌≤◌, Bool, true, List, length, get_or, Some, None, Option, sym, ap, ◌∙◌, subst, ⊎_elim, arith}
 use borrow.Author.Tests.{clash}
 use Rattle.std.proofs.lemmas.Bool.{cases_eq, cases_lt}
 use Rattle.graph.specs.Chains.{in_range, goes_from, last_from, Chained, reach}
-use Rattle.graph.specs.Reached.{Marked, Step}
+use Rattle.graph.specs.Reached.{Marked}
 use Rattle.graph.specs.Spreading.{Lined, Spreading, Grown, Spread}
 use Rattle.graph.proofs.Chaining.{in_range_from, goes_from_lem, last_is, last_is_none}
 use Rattle.graph.proofs.Spreads.{spreading_same, spreading_on, grown_same, grown_on}

@@ -1,5 +1,5 @@
 -- Places that are reached by pairs. A graph has n places, m pairs, and E says which places a pair's number joins.
-use Rattle.std.specs.Prelude.{◌≡◌, ℕ, ◌<◌, Bool, true, false, List, length, Some, None, Option, slice_index_or}
+use Rattle.std.specs.Prelude.{◌≡◌, ℕ, ◌<◌, Bool, true, false, List, length, Some, Option, slice_index_or}
 
 -- the place k is there, and is marked
 abbrev pub Marked : List Bool → ℕ → Type 0

@@ -1,5 +1,5 @@
 -- When marking is refused, and as what.
-use Rattle.std.specs.Prelude.{ℕ, Bool, cond, ◌&&◌, Ok, Err, Result, ◌==◌, nat_le}
+use Rattle.std.specs.Prelude.{ℕ, cond, ◌&&◌, Ok, Err, Result, ◌==◌, nat_le}
 use Rattle.graph.specs.declared.marking.Refusal.{Refusal}
 use Rattle.graph.specs.declared.marking.Refusal.TheVariants.{WrongLength, SmallWorkspace}
 

@@ -1,6 +1,6 @@
 -- Laws of marks: what is read, and what the numbering keeps.
-use Rattle.std.proofs.Common.{◌≡◌, ℕ, suc, pred, ◌+◌, ◌-◌, ◌<◌, ◌≤◌, Bool, true, false, cond, not, ◌&&◌, ◌||◌, eqb, List, [], ◌∷◌, ◌++◌, length, take, drop, Some, None, Option, sym, refl, ap, ◌∙◌, subst, arith, length-drop, length-take}
-use Rattle.std.proofs.lemmas.Bool.{cond-true, cond-false, eq-eqb, ne_eqb, eqb-true}
+use Rattle.std.proofs.Common.{◌≡◌, ℕ, suc, pred, ◌+◌, ◌-◌, ◌≤◌, Bool, true, false, cond, not, ◌&&◌, ◌||◌, eqb, List, [], ◌∷◌, ◌++◌, length, take, drop, Some, None, Option, sym, refl, ap, ◌∙◌, arith, length-drop, length-take}
+use Rattle.std.proofs.lemmas.Bool.{cond-true, cond-false, ne_eqb}
 use Rattle.std.proofs.lemmas.Bool.Decides.{nat_tests}
 use borrow.Author.Tests.{clash}
 use Rattle.tokens.specs.declared.parser.Token.{Token as Read}
@@ -11,10 +11,10 @@ use Rattle.groups.specs.declared.captures.Opening.TheVariants.{Last, Plain, Aske
 use Rattle.groups.specs.declared.captures.Mark.TheVariants.{Opens, Token as Tokened}
 use Rattle.tokens.specs.Cut.{past_front}
 use Rattle.tokens.specs.Reads.{meant, Taken}
-use Rattle.tokens.specs.Tokens.{Token, escape, final, class, comment, plain, spelled, first, tokens, opens_group}
-use Rattle.groups.specs.Captures.{Mark, group, token, opening, width, group_of, spelled_mark, first_mark, marks, closing, groups_after, in_lookaround, number_after, valid_number, valid_numbers, lookaround_depth, entered, left, depth_after, found_number, listed, name_byte, name_ends, named}
+use Rattle.tokens.specs.Tokens.{escape, final, class, comment, plain, first, opens_group}
+use Rattle.groups.specs.Captures.{Mark, group, token, opening, width, group_of, spelled_mark, first_mark, marks, groups_after, in_lookaround, number_after, valid_number, valid_numbers, lookaround_depth, depth_after, found_number, listed, name_byte, name_ends, named}
 use Rattle.tokens.specs.Cursor.{front}
-use Rattle.groups.specs.Marks.{StandsFor, TakenMark}
+use Rattle.groups.specs.Marks.{TakenMark}
 use Rattle.tokens.proofs.Cut.{cut_nil, cut_cons}
 use Rattle.tokens.proofs.Lists.{drop_least}
 use Rattle.tokens.proofs.Tokens.{taken_first}

@@ -1,5 +1,5 @@
 -- Which groups of a pattern are numbered, and which of them capture text that is consumed.
-use Rattle.std.specs.Prelude.{ℕ, ◌+◌, ◌-◌, ◌<◌, Bool, true, false, cond, not, ◌&&◌, ◌||◌, List, [], ◌∷◌, ◌++◌, take, drop, Some, None, Option, ◌==◌, nat_le}
+use Rattle.std.specs.Prelude.{ℕ, ◌+◌, ◌-◌, ◌<◌, Bool, true, false, cond, ◌&&◌, ◌||◌, List, [], ◌∷◌, ◌++◌, take, drop, Some, None, Option, ◌==◌, nat_le}
 use Rattle.groups.specs.declared.captures.Group.{Group}
 use Rattle.groups.specs.declared.captures.Group.TheVariants.{Capturing, Lookaround, Other}
 use Rattle.groups.specs.declared.captures.Opening.{Opening}

@@ -2,12 +2,11 @@
 use Rattle.std.proofs.Common.{◌≡◌, ℕ, zero, suc, ◌+◌, ◌<◌, ◌≤◌, Bool, true, false, cond, ◌||◌, eqb, ltb, ◌⊎◌, List, [], ◌∷◌, ◌++◌, length, get_or, drop, Some, None, Option, sym, refl, ap, ◌∙◌, subst, inl, inr, ⊎_elim, arith}
 use Rattle.std.specs.Str.{bytes_eq}
 use Rattle.std.proofs.lemmas.Slice.Eq.{bytes_eq-Decides}
-use Rattle.std.proofs.lemmas.Bool.{cond-true, cond-false, eqb-true, eq-eqb, ne_eqb, le-ltb, or_from, cases_eq, cases_lt}
+use Rattle.std.proofs.lemmas.Bool.{cond-true, cond-false, eq-eqb, ne_eqb, le-ltb, or_from, cases_eq, cases_lt}
 use Rattle.std.proofs.lemmas.List.{at_drop_more}
 use borrow.Author.Tests.{clash}
 use Rattle.judging.specs.declared.range.TextRange.{TextRange}
 use Rattle.judging.specs.declared.recorded.Entry.{Entry}
-use Rattle.judging.specs.declared.recorded.RecordedFault.{RecordedFault}
 use Rattle.judging.specs.Judging.{There, number_of}
 use Rattle.judging.specs.Ranges.{lies, text_at, nowhere}
 use Rattle.judging.specs.Recording.{entry_for, entries_for, ThereBelow}

@@ -1,9 +1,8 @@
 -- Laws of recorded verdicts.
-use Rattle.std.proofs.Common.{◌≡◌, ℕ, zero, suc, ◌+◌, ◌<◌, ◌≤◌, Bool, true, false, cond, List, [], ◌∷◌, length, get_or, drop, Some, None, Option, sym, refl, ap, ◌∙◌, arith}
+use Rattle.std.proofs.Common.{◌≡◌, ℕ, zero, suc, ◌+◌, ◌<◌, ◌≤◌, true, false, List, [], ◌∷◌, length, get_or, drop, Some, refl, ◌∙◌, arith}
 use Rattle.std.proofs.lemmas.List.{at_drop_more, at_drop_all}
 use Rattle.std.proofs.lemmas.Bool.{cond-true, cond-false}
 use Rattle.judging.specs.declared.recorded.Entry.{Entry}
-use Rattle.judging.specs.declared.recorded.RecordedFault.{RecordedFault}
 use Rattle.judging.specs.Records.{recorded, fault_of, is_text, blank, unrecorded}
 
 pub decides : (whole : List ℕ) (es : List Entry) (t : List ℕ) (k : ℕ) → k < length es → is_text whole t (get_or es k blank).text ≡ true →

@@ -1,5 +1,5 @@
 -- Recorded verdicts.
-use Rattle.std.specs.Prelude.{◌≡◌, ℕ, ◌<◌, ◌≤◌, Bool, true, false, cond, not, ◌&&◌, ◌||◌, List, [], ◌∷◌, length, get_or, Some, None, Ok, Err, Option, Result, ◌==◌, ◌≢◌, nat_lt, slice_index_or}
+use Rattle.std.specs.Prelude.{◌≡◌, ℕ, ◌<◌, Bool, true, false, cond, ◌||◌, List, [], ◌∷◌, length, get_or, Some, None, Ok, Err, Option, Result, ◌==◌, ◌≢◌, nat_lt, slice_index_or}
 use Rattle.std.specs.Str.{bytes_eq}
 use Rattle.judging.specs.declared.range.TextRange.{TextRange}
 use Rattle.judging.specs.declared.recorded.Entry.{Entry}
@@ -7,7 +7,6 @@ use Rattle.judging.specs.declared.recorded.RecordedEngine.{RecordedEngine}
 use Rattle.judging.specs.declared.recorded.RecordedFault.{RecordedFault}
 use Rattle.judging.specs.declared.recorded.RecordRefusal.{RecordRefusal}
 use Rattle.judging.specs.declared.recorded.RecordRefusal.TheVariants.{Outside, NoVerdict}
-use Rattle.judging.specs.Judging.{number_of}
 use Rattle.judging.specs.Ranges.{lies, text_at, nowhere}
 
 -- the number of a fault of the record; a number that no fault has counts as unrecorded

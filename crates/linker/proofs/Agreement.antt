@@ -1,12 +1,11 @@
 -- Where the grammars of two lists are paired, and rivals stand in one order, links, prototypes and flags agree.
-use Rattle.std.proofs.Common.{◌≡◌, ℕ, zero, suc, ◌<◌, ◌≤◌, Bool, true, false, ◌⊎◌, ◌↔◌, List, [], ◌∷◌, Some, None, Option, sym, refl, ap, ◌∙◌, subst, inl, inr, ⊎_elim, arith}
+use Rattle.std.proofs.Common.{◌≡◌, ℕ, ◌<◌, ◌≤◌, Bool, true, ◌⊎◌, ◌↔◌, List, Some, None, Option, sym, refl, ◌∙◌, subst, inl, inr, ⊎_elim, arith}
 use mathlib.Core.List.{List-discrete}
 use native.Mathlib.Decide.{ℕ_discrete}
 use Rattle.std.proofs.lemmas.Bool.{cases_lt}
 use Rattle.grammar.specs.Names.{Text, main}
 use Rattle.grammar.specs.Places.{At}
 use Rattle.grammar.specs.Grammars.{Scope, Reference, named, inline, by_scope, file, Grammar}
-use Rattle.grammar.proofs.Places.{at_same}
 use Rattle.linker.specs.Links.{LastOf, OfScope, OfName, Found, Missing, plain_text, asked, Abroad, found, fallback, AtHome, Leads}
 use Rattle.linker.specs.Linking.{link}
 use Rattle.linker.specs.Prototypes.{HasPrototype}

@@ -1,12 +1,12 @@
 -- What is marked against the linked includes is what a chain leads from.
-use Rattle.std.proofs.Common.{◌≡◌, ℕ, zero, suc, ◌+◌, ◌<◌, Bool, true, false, ◌↔◌, List, [], ◌∷◌, length, get_or, Some, None, Option, sym, refl, ap, ◌∙◌, subst, arith}
+use Rattle.std.proofs.Common.{◌≡◌, ℕ, ◌+◌, Bool, false, List, length, get_or, Some, None, Option, sym, refl, ap, ◌∙◌, subst, arith}
 use Rattle.grammar.specs.Names.{Text}
 use Rattle.grammar.specs.Places.{At, In, element_at}
-use Rattle.grammar.specs.Grammars.{Reference, named, inline, by_scope, file, Pattern, include, Context, Grammar, ContextOf}
+use Rattle.grammar.specs.Grammars.{Reference, named, inline, by_scope, file, Context, Grammar, ContextOf}
 use Rattle.grammar.proofs.Places.{at_same, at_below}
 use Rattle.grammar.proofs.ContextNames.{one_context}
-use Rattle.graph.specs.Reached.{Marked, Step, Marking}
-use Rattle.graph.specs.Laws.{reversed, Path, here, on, Reaches}
+use Rattle.graph.specs.Reached.{Marked, Step}
+use Rattle.graph.specs.Laws.{Path, here, on, Reaches}
 use Rattle.graph.proofs.Lawful.{laws_of_marking}
 use Rattle.linker.specs.Links.{Abroad, found, fallback, AtHome, Leads, OfScope, OfName, asked}
 use Rattle.linker.specs.Linking.{link, LinkTellsWhereReferencesLead}

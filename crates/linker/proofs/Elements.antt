@@ -1,5 +1,5 @@
 -- Elements by their number, and optional values.
-use Rattle.std.proofs.Common.{◌≡◌, ℕ, zero, suc, List, [], ◌∷◌, Some, None, Option, sym, refl, ap, ◌∙◌, subst}
+use Rattle.std.proofs.Common.{◌≡◌, ℕ, zero, suc, List, [], ◌∷◌, Some, None, Option, sym, refl, ap, subst}
 use Rattle.grammar.specs.Places.{At, element_at}
 use Rattle.linker.specs.Equality.{IsSome, content}
 use Rattle.linker.specs.Graphs.{later, joining}

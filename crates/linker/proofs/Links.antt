@@ -1,5 +1,5 @@
 -- `link` tells where references lead, and a reference leads to one place only.
-use Rattle.std.proofs.Common.{◌≡◌, ℕ, zero, suc, ◌<◌, ◌≤◌, Bool, true, false, cond, ◌⊎◌, ◌↔◌, List, [], ◌∷◌, Some, None, Decides, Option, sym, refl, ap, ◌∙◌, subst, inl, inr, arith}
+use Rattle.std.proofs.Common.{◌≡◌, ℕ, zero, suc, ◌<◌, ◌≤◌, Bool, true, false, cond, ◌⊎◌, List, [], ◌∷◌, Some, None, Decides, Option, sym, refl, ◌∙◌, subst, inl, inr, arith}
 use borrow.Author.Tests.{clash}
 use Rattle.std.proofs.lemmas.Bool.{cases_lt}
 use Rattle.grammar.specs.Names.{Text, main}
@@ -7,7 +7,7 @@ use Rattle.grammar.specs.Places.{At, element_at}
 use Rattle.grammar.specs.Grammars.{Reference, named, inline, by_scope, file, Grammar}
 use Rattle.grammar.proofs.Places.{at_same}
 use Rattle.linker.specs.Links.{LastOf, OfScope, OfName, Has, Found, Missing, plain_text, asked, within, Abroad, found, fallback, AtHome, Leads, Nowhere}
-use Rattle.linker.specs.Linking.{is_of_scope, is_of_name, or_here, last_of, has_named, context_in, in_last, find, or_else, with_plain_text_fallback, home, link, LinkTellsWhereReferencesLead}
+use Rattle.linker.specs.Linking.{is_of_scope, is_of_name, or_here, last_of, has_named, in_last, find, with_plain_text_fallback, home, link, LinkTellsWhereReferencesLead}
 use Rattle.linker.proofs.Tests.{of_scope, of_name, has_decides}
 
 -- ── the last grammar that passes ──

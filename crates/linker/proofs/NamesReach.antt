@@ -1,14 +1,14 @@
 -- What is marked on the graph of names is what is reached from the prototype.
-use Rattle.std.proofs.Common.{◌≡◌, ℕ, zero, suc, ◌+◌, ◌<◌, Bool, true, false, cond, ◌⊎◌, ◌↔◌, List, [], ◌∷◌, ◌++◌, length, get_or, Some, None, Option, sym, refl, ap, ◌∙◌, subst, inl, inr, arith}
+use Rattle.std.proofs.Common.{◌≡◌, ℕ, zero, suc, ◌+◌, Bool, true, false, cond, ◌⊎◌, List, [], ◌∷◌, length, Some, None, Option, sym, refl, ap, ◌∙◌, subst, inl, inr, arith}
 use borrow.Author.Tests.{clash}
 use Rattle.std.proofs.lemmas.Slice.Eq.{bytes_eq-Decides}
 use Rattle.std.specs.Str.{bytes_eq}
 use Rattle.grammar.specs.Names.{Text, prototype}
 use Rattle.grammar.specs.Places.{At, In, element_at}
 use Rattle.grammar.specs.Grammars.{Context, Grammar, ContextOf, ordered}
-use Rattle.grammar.proofs.Places.{at_same, at_below, at_there, in_left, in_right, at_either}
+use Rattle.grammar.proofs.Places.{at_same, at_below, in_left, in_right, at_either}
 use Rattle.grammar.proofs.ContextNames.{one_place}
-use Rattle.graph.specs.Reached.{Marked, Step, Reached, given, by, Marking}
+use Rattle.graph.specs.Reached.{Marked, Step, Reached, given, by}
 use Rattle.linker.specs.Graphs.{later, joining, number_of, names_from, name_pairs, named_pair, name_pair, prototype_marks, MarksWhatThePrototypeReaches}
 use Rattle.linker.specs.Prototypes.{followed, FromPrototype, itself, onward}
 use Rattle.linker.proofs.Elements.{none_some, some_same, element_there, element_found, later_some, joining_some}

@@ -1,39 +1,12 @@
 -- What a history answers follows from what its offers mean.
-use Rattle.std.proofs.Common.{◌≡◌, ℕ, zero, suc, ◌⊎◌, ◌↔◌, List, [], ◌∷◌, ◌++◌, sym, refl, ap, ◌∙◌, subst, inl, inr}
+use Rattle.std.proofs.Common.{◌≡◌, ℕ, zero, suc, List, [], ◌∷◌, ◌++◌, sym, refl, ap, ◌∙◌, subst}
 use mathlib.Core.Path.{fun_ext}
 use Rattle.std.specs.List.{AllByRecursion as All}
 use Rattle.grammar.specs.declared.refusal.Refusal.{Refusal}
 use Rattle.grammar.specs.Places.{At}
 use Rattle.grammar.specs.Grammars.{Grammar}
 use Rattle.grammar.proofs.Places.{at_same}
-use Rattle.linker.specs.Histories.{
-  Offer,
-  same?,
-  Outcome,
-  grammar,
-  refusal,
-  Verdicts,
-  Meaning,
-  Answer,
-  accepted,
-  refused,
-  no_room,
-  Call,
-  Answers,
-  History,
-  HadRoom,
-  RoomThroughout,
-  offers,
-  Taken,
-  taken_by,
-  taken,
-  offers_of,
-  grammars_of,
-  counted,
-  copies,
-  Twins,
-  SameOffers,
-}
+use Rattle.linker.specs.Histories.{Offer, same?, Outcome, grammar, refusal, Verdicts, Meaning, Answer, accepted, refused, no_room, Call, Answers, History, HadRoom, RoomThroughout, offers, Taken, taken_by, taken, offers_of, grammars_of, counted, copies, SameOffers}
 use Rattle.linker.specs.Law.{SameVerdicts, SameAnswers}
 use Rattle.linker.proofs.Copies.{twins_turned, twin_there}
 

@@ -1,13 +1,12 @@
 -- One tree more changes only what the law names.
-use Rattle.std.proofs.Common.{◌≡◌, ℕ, zero, suc, ◌+◌, ◌<◌, ◌≤◌, true, false, ltb, ◌⊎◌, ◌↔◌, List, [], ◌∷◌, ◌++◌, length, sym, refl, ap, ◌∙◌, subst, inl, inr, ⊎_elim, append_assoc, arith, le-ltb, lt-ltb}
+use Rattle.std.proofs.Common.{◌≡◌, ℕ, zero, suc, ◌+◌, ◌<◌, ◌≤◌, ltb, ◌⊎◌, List, [], ◌∷◌, ◌++◌, length, sym, refl, ap, ◌∙◌, subst, inl, inr, ⊎_elim, append_assoc, arith, le-ltb, lt-ltb}
 use Rattle.std.specs.List.{AllByRecursion as All}
 use Rattle.std.proofs.lemmas.Bool.{cases_lt, cond-true, cond-false}
-use Rattle.grammar.specs.Names.{Text}
 use Rattle.grammar.specs.Places.{At}
 use Rattle.grammar.specs.Grammars.{Reference, named, inline, by_scope, file, Grammar}
 use Rattle.grammar.proofs.Places.{at_below, at_left, at_right, at_either}
 use Rattle.linker.specs.Histories.{Offer, Meaning, Verdicts, Answer, accepted, Call, Answers, History, Taken, taken_by, taken, grammars_of, grammars}
-use Rattle.linker.specs.Law.{Comparable, Correspond, Paired, Agree, OneMore, set_aside, moved, CorrespondBeside, MayMove, ChangesLittle, OneMoreChangesLittle}
+use Rattle.linker.specs.Law.{Correspond, Paired, Agree, OneMore, set_aside, moved, CorrespondBeside, MayMove, OneMoreChangesLittle}
 use Rattle.linker.proofs.Agreement.{Matched, Unmoved, agree}
 use Rattle.linker.proofs.Offers.{same_history, same_answers}
 use Rattle.linker.proofs.Orders.{matched}

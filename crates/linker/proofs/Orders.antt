@@ -1,12 +1,10 @@
 -- Two orders of adding agree.
-use Rattle.std.proofs.Common.{◌≡◌, ℕ, zero, suc, ◌<◌, ◌⊎◌, ◌↔◌, List, [], ◌∷◌, ◌++◌, sym, refl, ap, ◌∙◌, subst, inl, inr, ⊎_elim}
-use Rattle.grammar.specs.Names.{Text}
+use Rattle.std.proofs.Common.{◌≡◌, ℕ, List, sym, ◌∙◌, subst, inl, ⊎_elim}
 use Rattle.grammar.specs.Places.{At}
 use Rattle.grammar.specs.Grammars.{Reference, named, inline, by_scope, file, Grammar}
 use Rattle.grammar.proofs.Places.{at_same}
-use Rattle.linker.specs.Flags.{Chain, GoesOver}
-use Rattle.linker.specs.Histories.{grammar, Meaning, Verdicts, Call, History, offers, Taken, taken, offers_of, grammars_of, grammars, Twins, SameOffers}
-use Rattle.linker.specs.Law.{Rivals, Comparable, Correspond, Differs, DiffersFrom, Paired, Agree, AgreeWholly, OrdersAgree}
+use Rattle.linker.specs.Histories.{grammar, Meaning, Verdicts, Call, History, taken, offers_of, grammars, SameOffers}
+use Rattle.linker.specs.Law.{Rivals, Comparable, Correspond, AgreeWholly, OrdersAgree}
 use Rattle.linker.proofs.Agreement.{Matched, Unmoved, same_link, flags_there, flags_back, agree, goes_over_none}
 use Rattle.linker.proofs.Copies.{twins_turned, twin_there, twin_alone}
 use Rattle.linker.proofs.Offers.{taken_offer, taken_grammar, by_offer, by_grammar, grammar_once, taken_meant, same_history, same_taken, same_answers}

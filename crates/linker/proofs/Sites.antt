@@ -1,12 +1,12 @@
 -- Sites: each context of the grammars stands at one place among them, and so does its mark.
-use Rattle.std.proofs.Common.{◌≡◌, ℕ, zero, suc, ◌+◌, ◌<◌, Bool, true, false, cond, ◌||◌, eqb, ◌⊎◌, List, [], ◌∷◌, ◌++◌, length, get_or, Some, None, Option, sym, refl, ap, ◌∙◌, subst, inl, inr, arith}
+use Rattle.std.proofs.Common.{◌≡◌, ℕ, zero, suc, ◌+◌, Bool, true, false, cond, eqb, ◌⊎◌, List, [], ◌∷◌, ◌++◌, length, get_or, Some, Option, sym, refl, ap, ◌∙◌, subst, inl, inr, arith}
 use borrow.Author.Tests.{clash}
 use Rattle.std.proofs.lemmas.Slice.Eq.{bytes_eq-Decides}
 use Rattle.std.proofs.lemmas.Bool.{eqb-true, eq-eqb}
 use Rattle.std.specs.Str.{bytes_eq}
 use Rattle.grammar.specs.Names.{Text}
 use Rattle.grammar.specs.Places.{At, In}
-use Rattle.grammar.specs.Grammars.{Pattern, Context, Grammar, ContextOf, ordered}
+use Rattle.grammar.specs.Grammars.{Context, Grammar, ContextOf}
 use Rattle.grammar.proofs.Places.{in_left, in_right, at_either}
 use Rattle.grammar.proofs.ContextNames.{one_place}
 use Rattle.linker.specs.Graphs.{later, Site, sites_in, sites, number_of_site, pops_by_backref, backref_marks_in, backref_marks}

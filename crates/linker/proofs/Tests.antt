@@ -1,5 +1,5 @@
 -- The tests of scopes, names and contexts decide what they are about.
-use Rattle.std.proofs.Common.{◌≡◌, ℕ, zero, suc, Bool, true, false, cond, ◌&&◌, List, [], ◌∷◌, Decides, sym, refl, ap, ◌∙◌, subst}
+use Rattle.std.proofs.Common.{◌≡◌, ℕ, zero, suc, Bool, true, false, cond, ◌&&◌, List, [], ◌∷◌, Decides, sym, refl, ap, ◌∙◌}
 use mathlib.Core.List.{cons≢nil, head-eq_of_cons-eq, tail-eq_of_cons-eq}
 use borrow.Author.Tests.{clash}
 use Rattle.std.specs.Str.{bytes_eq}
@@ -7,7 +7,7 @@ use Rattle.std.proofs.lemmas.Bool.{and_parts, and_from}
 use Rattle.std.proofs.lemmas.Slice.Eq.{bytes_eq-Decides}
 use Rattle.grammar.specs.Names.{Text}
 use Rattle.grammar.specs.Places.{At, In}
-use Rattle.grammar.specs.Grammars.{Scope, Context, Grammar, ContextOf}
+use Rattle.grammar.specs.Grammars.{Scope, Context, Grammar}
 use Rattle.linker.specs.Links.{OfScope, OfName, Has}
 use Rattle.linker.specs.Linking.{same_scope, is_of_scope, is_of_name, has_named}
 

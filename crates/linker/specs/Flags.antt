@@ -1,8 +1,8 @@
 -- Which contexts are flagged as using backreferences.
-use Rattle.std.specs.Prelude.{◌≡◌, ℕ, Bool, true, ◌⊎◌, List}
+use Rattle.std.specs.Prelude.{◌≡◌, ℕ, true, ◌⊎◌, List}
 use Rattle.grammar.specs.Names.{Text}
 use Rattle.grammar.specs.Places.{At, In}
-use Rattle.grammar.specs.Grammars.{Reference, Operation, pop, Match, Pattern, include, match, Context, Grammar, ContextOf}
+use Rattle.grammar.specs.Grammars.{Reference, pop, Match, include, match, Context, Grammar, ContextOf}
 use Rattle.linker.specs.Links.{Leads}
 
 -- some pattern of the context pops and has a backreference

@@ -1,5 +1,5 @@
 -- The law of histories: what the order of adding decides, and what it does not.
-use Rattle.std.specs.Prelude.{◌≡◌, ℕ, suc, ◌<◌, Bool, true, false, cond, ◌⊎◌, ◌↔◌, List, [], ◌∷◌, ◌++◌, length, Option, nat_lt}
+use Rattle.std.specs.Prelude.{◌≡◌, ℕ, suc, ◌<◌, true, cond, ◌⊎◌, ◌↔◌, List, ◌∷◌, ◌++◌, length, nat_lt}
 use Rattle.grammar.specs.Names.{Text}
 use Rattle.grammar.specs.Places.{At}
 use Rattle.grammar.specs.Grammars.{Reference, named, inline, by_scope, file, Context, Grammar, ContextOf, references}
@@ -8,7 +8,7 @@ use Rattle.linker.specs.Prototypes.{HasPrototype}
 use Rattle.linker.specs.Flags.{Chain, GoesOver}
 use Rattle.linker.specs.Graphs.{MarksWhatThePrototypeReaches, MarksWhatAChainLeadsFrom}
 use Rattle.linker.specs.Linking.{LinkTellsWhereReferencesLead}
-use Rattle.linker.specs.Histories.{Meaning, Verdicts, Answer, accepted, Call, History, RoomThroughout, offers, Taken, taken, offers_of, grammars, Twins, SameOffers}
+use Rattle.linker.specs.Histories.{Meaning, Verdicts, accepted, Call, History, RoomThroughout, offers, Taken, taken, offers_of, grammars, Twins, SameOffers}
 
 -- of equal scope or of equal name
 abbrev pub Rivals : Grammar → Grammar → Type 0

@@ -1,5 +1,5 @@
 -- Links computed: `link` answers where a reference leads.
-use Rattle.std.specs.Prelude.{◌≡◌, ℕ, zero, suc, Bool, true, false, cond, ◌&&◌, ◌↔◌, List, [], ◌∷◌, Some, None, Option}
+use Rattle.std.specs.Prelude.{◌≡◌, ℕ, suc, Bool, true, false, cond, ◌&&◌, ◌↔◌, List, [], ◌∷◌, Some, None, Option}
 use Rattle.std.specs.Str.{bytes_eq}
 use Rattle.grammar.specs.Names.{Text, main}
 use Rattle.grammar.specs.Places.{element_at}

@@ -1,5 +1,5 @@
 -- Where references lead, over the grammars in the order of adding.
-use Rattle.std.specs.Prelude.{◌≡◌, ℕ, ◌<◌, Bool, true, false, cond, List, [], ◌∷◌, Some, None, codes, Option}
+use Rattle.std.specs.Prelude.{◌≡◌, ℕ, ◌<◌, Bool, true, cond, List, Some, None, codes, Option}
 use Rattle.std.specs.Str.{bytes_eq}
 use Rattle.grammar.specs.Names.{Text, main}
 use Rattle.grammar.specs.Places.{At}

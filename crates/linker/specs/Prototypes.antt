@@ -1,5 +1,5 @@
 -- Which contexts have the prototype of their grammar.
-use Rattle.std.specs.Prelude.{◌≡◌, ℕ, Bool, true, List, [], ◌∷◌, ◌++◌}
+use Rattle.std.specs.Prelude.{◌≡◌, ℕ, true, List, [], ◌∷◌, ◌++◌}
 use Rattle.grammar.specs.Names.{Text, prototype}
 use Rattle.grammar.specs.Places.{At, In}
 use Rattle.grammar.specs.Grammars.{Reference, named, inline, by_scope, file, Pattern, include, match, operands, Context, Grammar, ContextOf}

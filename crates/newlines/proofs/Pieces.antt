@@ -1,16 +1,15 @@
 -- Laws of the pieces that are read where a pattern is rewritten for lines without a newline.
-use Rattle.std.proofs.Common.{◌≡◌, ℕ, suc, pred, ◌+◌, ◌-◌, ◌<◌, ◌≤◌, Bool, true, false, cond, List, [], ◌∷◌, ◌++◌, length, take, drop, sym, refl, ap, ◌∙◌, arith, length-drop}
+use Rattle.std.proofs.Common.{◌≡◌, ℕ, pred, Bool, true, false, cond, List, [], ◌∷◌, ◌++◌, length, drop, sym, refl, ap, ◌∙◌, arith, length-drop}
 use Rattle.std.specs.List.{flat_map}
-use Rattle.std.proofs.lemmas.List.{append_cancel_left}
 use Rattle.std.proofs.lemmas.Bool.{cond-true, cond-false}
 use borrow.Author.Tests.{clash}
 use Rattle.tokens.specs.declared.parser.Token.{Token as Read}
 use Rattle.newlines.specs.declared.newlines.Piece.TheVariants.{OptionalNewline, Token as Tokened}
-use Rattle.tokens.specs.Cut.{cut, past_front, Honest}
+use Rattle.tokens.specs.Cut.{past_front, Honest}
 use Rattle.tokens.specs.Starts.{starts}
 use Rattle.tokens.specs.Reads.{meant, Taken}
-use Rattle.newlines.specs.Pieces.{meant_piece, TakenPiece}
-use Rattle.tokens.specs.Tokens.{Token, spelled, first, tokens}
+use Rattle.newlines.specs.Pieces.{TakenPiece}
+use Rattle.tokens.specs.Tokens.{first}
 use Rattle.newlines.specs.Newlines.{Piece, optional, token, optional_newline, spelled_piece, first_piece, pieces}
 use Rattle.tokens.proofs.Cut.{cut_nil, cut_cons, cut_joined}
 use Rattle.tokens.proofs.Starts.{starts_split}

@@ -1,5 +1,5 @@
 -- What becomes of a pattern for lines that end with a newline, and for lines that do not.
-use Rattle.std.specs.Prelude.{ℕ, Bool, true, false, cond, not, ◌&&◌, ◌||◌, List, [], ◌∷◌, ◌++◌, Some, None, codes, Option, ◌==◌}
+use Rattle.std.specs.Prelude.{ℕ, Bool, false, cond, not, ◌&&◌, ◌||◌, List, [], ◌∷◌, ◌++◌, Some, None, codes, Option, ◌==◌}
 use Rattle.std.specs.List.{flat_map}
 use Rattle.tokens.specs.Cursor.{front}
 use Rattle.tokens.specs.Cut.{cut}

@@ -1,8 +1,8 @@
 -- What one read of a piece gives and leaves, where a pattern is rewritten for lines without a newline.
-use Rattle.std.specs.Prelude.{◌≡◌, ℕ, ◌<◌, List, [], ◌∷◌, ◌++◌, length, Some, None, Option}
+use Rattle.std.specs.Prelude.{◌≡◌, ℕ, ◌<◌, List, [], ◌∷◌, length, Some, None, Option}
 use Rattle.newlines.specs.declared.newlines.Piece.{Piece as Read}
 use Rattle.newlines.specs.declared.newlines.Piece.TheVariants.{OptionalNewline, Token as Tokened}
-use Rattle.newlines.specs.Newlines.{Piece, optional, token, spelled_piece, pieces}
+use Rattle.newlines.specs.Newlines.{Piece, optional, token, pieces}
 use Rattle.tokens.specs.Reads.{meant, Told}
 
 -- the piece that a value of the code stands for

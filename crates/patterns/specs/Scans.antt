@@ -1,5 +1,5 @@
 -- What the program says of one pattern.
-use Rattle.std.specs.Prelude.{◌≡◌, ℕ, ◌<◌, Bool, true, false, ◌⊎◌, List, length, IsUtf8}
+use Rattle.std.specs.Prelude.{◌≡◌, ℕ, ◌<◌, true, false, ◌⊎◌, List, length, IsUtf8}
 use Rattle.backrefs.specs.Backrefs.{has_backref}
 use Rattle.groups.specs.Captures.{consuming_captures}
 use Rattle.tokens.specs.Posix.{with_properties}

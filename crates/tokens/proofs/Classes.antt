@@ -1,5 +1,5 @@
 -- Laws of the walk through a class: one byte on, the byte that closes it, the end of the text.
-use Rattle.std.proofs.Common.{◌≡◌, ℕ, suc, ◌+◌, ◌-◌, ◌<◌, ◌≤◌, Bool, true, false, cond, ◌&&◌, eqb, List, [], ◌∷◌, length, get_or, take, drop, sym, refl, ap, ◌∙◌, arith}
+use Rattle.std.proofs.Common.{◌≡◌, ℕ, suc, ◌+◌, ◌<◌, ◌≤◌, Bool, true, false, cond, ◌&&◌, eqb, List, [], ◌∷◌, length, get_or, take, drop, sym, refl, ap, ◌∙◌, arith}
 use Rattle.std.proofs.lemmas.List.{at_drop_more, at_drop_all}
 use Rattle.std.proofs.lemmas.Bool.{cond-true, cond-false, and_parts}
 use Rattle.std.proofs.lemmas.Bool.Decides.{nat_tests}
@@ -7,7 +7,7 @@ use borrow.Author.Tests.{clash}
 use Rattle.tokens.specs.declared.class.ClassState.{ClassState}
 use Rattle.tokens.specs.declared.class.ClassState.TheVariants.{Start, Negated, Inside, Escaped}
 use Rattle.tokens.specs.declared.class.ClassWalker.{ClassWalker}
-use Rattle.tokens.specs.Classes.{opened, from, stepped, closes, inside}
+use Rattle.tokens.specs.Classes.{from, stepped, closes, inside}
 use Rattle.tokens.specs.Tokens.{class_length, newline_in, closed_in}
 
 pub length_on : (w v : ClassWalker) (bs : List ℕ) (i : ℕ) → i < length bs → closes w (get_or bs i 0) ≡ false → v ≡ stepped w (get_or bs i 0) →

@@ -1,5 +1,5 @@
 -- Laws of POSIX brackets, and of the walk through a class that replaces them.
-use Rattle.std.proofs.Common.{◌≡◌, ℕ, zero, suc, pred, ◌+◌, ◌-◌, ◌<◌, ◌≤◌, Bool, true, false, cond, not, ◌&&◌, eqb, ◌⊎◌, List, [], ◌∷◌, ◌++◌, length, take, drop, is_err, Some, None, Ok, Err, Option, Result, sym, refl, ap, ◌∙◌, subst, inl, inr, ⊎_elim, arith, length-append, length-drop, length-take}
+use Rattle.std.proofs.Common.{◌≡◌, ℕ, suc, pred, ◌+◌, ◌-◌, ◌<◌, Bool, true, false, cond, not, ◌&&◌, eqb, ◌⊎◌, List, [], ◌∷◌, ◌++◌, length, take, drop, is_err, Some, None, Ok, Err, Option, Result, sym, refl, ap, ◌∙◌, subst, inl, inr, arith, length-append, length-drop, length-take}
 use Rattle.std.specs.List.{flat_map}
 use Rattle.std.proofs.lemmas.List.{take-append-drop, append_assoc, append-nil, take-append-le, take_at, take_all}
 use Rattle.std.proofs.lemmas.Bool.{cond-true, cond-false, cond_both, eqb-true, eq-eqb, ne_eqb, cases_eq, and_parts, and_from, not_from_false, not-true}
@@ -17,7 +17,7 @@ use Rattle.buffer.specs.Appends.{Appended}
 use Rattle.tokens.specs.Reads.{meant, Taken}
 use Rattle.tokens.specs.Cursor.{front}
 use Rattle.tokens.specs.Tokens.{Token, class, comment, plain, spelled, first, tokens, escaping, opens_comment, class_length, comment_length}
-use Rattle.tokens.specs.Posix.{Member, escaped, bracket, single, bracket_of, property_of, first_of, posix_classes, bracket_at, bracket_or, escaped_or, first_member, spelled_member, members, with_property, replaced_from, rest_replaced, rest_behind, is_escaped, bracket_here, passed, class_text, class_with_properties, token_with_properties, Replaced, ReplacedToken}
+use Rattle.tokens.specs.Posix.{Member, single, bracket_of, property_of, first_of, posix_classes, bracket_at, bracket_or, escaped_or, first_member, spelled_member, members, with_property, replaced_from, rest_replaced, rest_behind, is_escaped, bracket_here, passed, class_text, class_with_properties, token_with_properties, Replaced, ReplacedToken}
 use Rattle.tokens.proofs.Cut.{cut_nil, cut_cons}
 use Rattle.tokens.proofs.Lists.{drop_least}
 use Rattle.tokens.proofs.Tokens.{taken_first}

@@ -1,5 +1,5 @@
 -- Laws of tokens.
-use Rattle.std.proofs.Common.{◌≡◌, ℕ, suc, pred, ◌+◌, ◌-◌, ◌<◌, ◌≤◌, Bool, true, false, cond, ◌&&◌, eqb, ◌⊎◌, List, [], ◌∷◌, ◌++◌, length, take, drop, Some, None, Option, sym, refl, ap, ◌∙◌, inl, inr, ⊎_elim, arith, length-drop, length-take, Bor}
+use Rattle.std.proofs.Common.{◌≡◌, ℕ, suc, pred, ◌+◌, ◌-◌, Bool, true, false, cond, ◌&&◌, eqb, List, [], ◌∷◌, ◌++◌, length, take, drop, Some, None, Option, sym, refl, ap, ◌∙◌, ⊎_elim, arith, length-drop, length-take, Bor}
 use Rattle.std.specs.List.{flat_map}
 use Rattle.std.proofs.lemmas.List.{append_cancel_left}
 use Rattle.std.proofs.lemmas.Bool.{eqb-true, eq-eqb, ne_eqb, cond-true, cond-false, and_left, cases_eq}
@@ -7,9 +7,9 @@ use Rattle.tokens.specs.declared.parser.Token.{Token as Read}
 use Rattle.tokens.specs.declared.parser.Token.TheVariants.{Escape, FinalBackslash, Class, Comment, Plain}
 use Rattle.tokens.specs.Cursor.{front}
 use Rattle.tokens.specs.Reads.{meant, Told, Taken}
-use Rattle.tokens.specs.Classes.{opened, stepped, closes}
-use Rattle.tokens.specs.Cut.{cut, past_front, Honest}
-use Rattle.tokens.specs.Tokens.{Token, escape, final, class, comment, plain, spelled, class_length, comment_length, opens_comment, escaping, first, tokens, newline_in, has_newline}
+use Rattle.tokens.specs.Classes.{opened}
+use Rattle.tokens.specs.Cut.{past_front, Honest}
+use Rattle.tokens.specs.Tokens.{Token, escape, class, comment, plain, spelled, class_length, comment_length, opens_comment, escaping, first, tokens, newline_in, has_newline}
 use Rattle.tokens.proofs.Cut.{cut_nil, cut_cons, cut_joined}
 use Rattle.tokens.proofs.Classes.{newline_taken}
 use Rattle.tokens.proofs.Lists.{take_drop_taken, drop_least}

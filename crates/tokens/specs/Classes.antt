@@ -1,5 +1,5 @@
 -- The walk through a character class: what one byte does to it, and where the class ends.
-use Rattle.std.specs.Prelude.{◌≡◌, ℕ, suc, ◌+◌, ◌-◌, Bool, true, false, cond, not, ◌&&◌, ◌||◌, List, [], ◌∷◌, ◌==◌}
+use Rattle.std.specs.Prelude.{ℕ, ◌+◌, ◌-◌, Bool, true, false, cond, not, ◌&&◌, ◌||◌, ◌==◌}
 use Rattle.tokens.specs.declared.class.ClassState.{ClassState}
 use Rattle.tokens.specs.declared.class.ClassState.TheVariants.{Start, Negated, Inside, Escaped}
 use Rattle.tokens.specs.declared.class.ClassWalker.{ClassWalker}

@@ -1,5 +1,5 @@
 -- The tokens of a pattern: an escape, a class, a comment, a backslash at the very end, any other byte.
-use Rattle.std.specs.Prelude.{◌≡◌, ℕ, suc, ◌+◌, ◌-◌, Bool, true, false, cond, not, ◌&&◌, List, [], ◌∷◌, ◌++◌, length, take, ◌==◌}
+use Rattle.std.specs.Prelude.{ℕ, suc, Bool, true, false, cond, not, ◌&&◌, List, [], ◌∷◌, take, ◌==◌}
 use Rattle.tokens.specs.declared.class.ClassWalker.{ClassWalker}
 use Rattle.tokens.specs.Classes.{opened, stepped, closes}
 use Rattle.tokens.specs.Cut.{cut}

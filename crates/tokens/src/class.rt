@@ -118,7 +118,8 @@ fn closes_behind(behind: &[u8]) -> bool
 {
     let mut walker = ClassWalker::new();
     for byte in behind {
-        if walker.step(*byte) {
+        let closes = walker.step(*byte);
+        if closes {
             return true;
         }
     }

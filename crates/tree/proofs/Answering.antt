@@ -1,10 +1,9 @@
 -- What the numbers of a node say of the value that it stands for.
-use Rattle.std.proofs.Common.{◌≡◌, ℕ, ◌+◌, ◌<◌, ◌≤◌, Bool, true, false, cond, eqb, List, [], ◌∷◌, length, ℤ, pos, Some, None, Option, sym, refl, ap, ◌∙◌, subst, arith, w64, of_z}
+use Rattle.std.proofs.Common.{◌≡◌, ℕ, ◌<◌, Bool, true, false, cond, eqb, List, length, ℤ, pos, Some, None, Option, sym, refl, ap, arith, w64, of_z}
 use Rattle.std.specs.Option.{ok_or}
 use Rattle.tree_rule.specs.declared.node.RawNode.{RawNode}
 use Rattle.tree_rule.specs.declared.node.Kind.{Kind}
-use Rattle.tree.specs.declared.unanswered.Unanswered.{Unanswered}
-use Rattle.tree.specs.declared.unanswered.Unanswered.TheVariants.{NoSuchNode, OtherKind}
+use Rattle.tree.specs.declared.unanswered.Unanswered.TheVariants.{OtherKind}
 use Rattle.tree_rule.specs.Kinds.{kind_of}
 use Rattle.tree_rule.specs.Nodes.{at, bytes}
 use Rattle.tree.specs.Questions.{Answered, kind_in, boolean_in, integer_in, string_in}

@@ -1,10 +1,10 @@
 -- The children of a value, one after another.
-use Rattle.std.proofs.Common.{◌≡◌, ℕ, ◌+◌, ◌<◌, ◌≤◌, Bool, true, false, cond, ltb, List, [], ◌∷◌, ◌++◌, length, Some, None, Option, sym, refl, ap, ◌∙◌, subst, arith}
+use Rattle.std.proofs.Common.{◌≡◌, ℕ, ◌+◌, ◌<◌, ◌≤◌, cond, ltb, List, [], ◌∷◌, ◌++◌, length, Some, None, sym, ap, ◌∙◌, subst, arith}
 use Rattle.std.proofs.lemmas.Bool.{cond-true, cond-false, lt-ltb, le-ltb}
 use Rattle.tree_rule.specs.declared.node.RawNode.{RawNode}
 use Rattle.tree_rule.specs.Nodes.{at, from, children}
 use Rattle.tree_rule.specs.Rule.{Formed, Leaf}
-use Rattle.tree.specs.Questions.{held, front, item_numbers, entry_numbers, is_text, find}
+use Rattle.tree.specs.Questions.{held, front, item_numbers, entry_numbers}
 use Rattle.tree.specs.Values.{Value, Items, Entries, other, boolean, integer, string, list, map, no_item, item, no_entry, entry, Stands, Row, Pairs, number}
 use Rattle.tree_rule.proofs.Walks.{Forward, from_here, from_past}
 use Rattle.tree.proofs.Known.{leaf_known}

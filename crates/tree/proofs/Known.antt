@@ -1,5 +1,5 @@
 -- What is known of a tree from its type: facts of the rule that have one proof at most.
-use Rattle.std.proofs.Common.{◌≡◌, ℕ, ◌+◌, ◌<◌, ◌≤◌, List, [], ◌∷◌, length, refl}
+use Rattle.std.proofs.Common.{◌≡◌, ℕ, ◌<◌, List, [], ◌∷◌, length, refl}
 use mathlib.Core.Logic.{∥∥₁_elim}
 use mathlib.Core.HLevel.{Π_prop, →_prop, ×_prop, ⊥_prop}
 use native.Mathlib.Bridge.{le_prop}

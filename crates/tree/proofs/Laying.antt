@@ -1,5 +1,5 @@
 -- A value laid out in arrays: each part's node where its number says, each string's bytes where its node says.
-use Rattle.std.proofs.Common.{◌≡◌, ℕ, zero, suc, ◌+◌, ◌-◌, ◌<◌, ◌≤◌, Bool, true, false, cond, List, [], ◌∷◌, ◌++◌, length, get_or, take, drop, ℤ, pos, sym, refl, ap, ◌∙◌, subst, append_assoc, append-nil, arith, length-append, length-drop, get_or-drop, drop-drop, take_at, drop_at}
+use Rattle.std.proofs.Common.{◌≡◌, ℕ, suc, ◌+◌, ◌≤◌, cond, List, [], ◌∷◌, ◌++◌, length, get_or, take, drop, pos, sym, refl, ap, ◌∙◌, append_assoc, arith, length-append, length-drop, get_or-drop, drop-drop, take_at, drop_at}
 use Rattle.tree_rule.specs.declared.node.RawNode.{RawNode}
 use Rattle.tree_rule.specs.Nodes.{at, none, raw}
 use Rattle.tree.specs.Values.{Value, Items, Entries, other, boolean, integer, string, list, map, no_item, item, no_entry, entry}

@@ -1,9 +1,8 @@
 -- One node of the kind other, with no text, is a tree.
-use Rattle.std.proofs.Common.{◌≡◌, ℕ, zero, suc, ◌<◌, ◌≤◌, List, [], ◌∷◌, length, refl, inl, inr, arith, lit<, lit≤}
+use Rattle.std.proofs.Common.{◌≡◌, ℕ, zero, suc, ◌<◌, [], ◌∷◌, refl, arith, lit<, lit≤}
 use Rattle.tree_rule.specs.Nodes.{at, children}
-use Rattle.tree_rule.specs.Rule.{Formed, Right, Filled, Nests}
+use Rattle.tree_rule.specs.Rule.{Formed, Right, Filled}
 use Rattle.tree.specs.Checked.{lone}
-use Rattle.tree_rule.specs.declared.node.RawNode.{RawNode}
 use Rattle.tree_rule.proofs.Walks.{from_past}
 use Rattle.tree_rule.proofs.Nesting.{nests_node}
 

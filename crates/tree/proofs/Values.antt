@@ -1,13 +1,13 @@
 -- Well-formed arrays stand for exactly one value.
-use Rattle.std.proofs.Common.{◌≡◌, ℕ, zero, suc, ◌+◌, ◌-◌, ◌*◌, ◌<◌, ◌≤◌, Bool, true, false, cond, eqb, ltb, ◌⊎◌, List, [], ◌∷◌, length, ℤ, pos, negsuc, sym, refl, ap, ◌∙◌, subst, inl, inr, arith}
+use Rattle.std.proofs.Common.{◌≡◌, ℕ, zero, suc, ◌+◌, ◌-◌, ◌*◌, ◌<◌, ◌≤◌, Bool, true, false, cond, eqb, ltb, ◌⊎◌, List, length, ℤ, pos, negsuc, sym, refl, ap, ◌∙◌, subst, inl, inr, arith}
 use Rattle.std.specs.List.{AllByRecursion as All}
 use Rattle.std.proofs.lemmas.Bool.{cond-true, cond-false, lt-ltb, le-ltb, cases_lt}
 use Rattle.tree_rule.specs.declared.node.RawNode.{RawNode}
-use Rattle.tree_rule.specs.Nodes.{at, bytes, from, children}
-use Rattle.tree_rule.specs.Rule.{Ended, Filled, Formed, InTurn, Truth}
+use Rattle.tree_rule.specs.Nodes.{at, bytes, from}
+use Rattle.tree_rule.specs.Rule.{Formed, InTurn, Truth}
 use Rattle.tree.specs.Values.{Value, Items, Entries, other, boolean, integer, string, list, map, no_item, item, no_entry, entry, Stands, Row, Pairs, One}
-use Rattle.tree_rule.proofs.Walks.{Forward, forward, all_here}
-use Rattle.tree_rule.proofs.Turns.{Pair, pair_here}
+use Rattle.tree_rule.proofs.Walks.{Forward, all_here}
+use Rattle.tree_rule.proofs.Turns.{pair_here}
 
 abbrev truth : ℤ → Bool
 truth (pos n) = ltb 0 n

@@ -1,4 +1,4 @@
-use Rattle.std.proofs.Common.{◌≡◌, take, sym, ap, ◌∙◌}
+use Rattle.std.proofs.Common.{take, ap, ◌∙◌}
 use Rattle.std.specs.List.{flat_map}
 use Rattle.backrefs.specs.Backrefs.{put, substituted}
 use Rattle.backrefs.specs.Pairs.{meant_pair}

@@ -1,6 +1,5 @@
-use Rattle.std.proofs.Common.{◌≡◌, ℕ, List, Some, None, Option, sym, ap, ◌∙◌, arith}
+use Rattle.std.proofs.Common.{Option, sym, ap, ◌∙◌, arith}
 use Rattle.tokens.specs.Reads.{meant}
-use Rattle.tokens.specs.Tokens.{Token}
 use Rattle.engine.specs.declared.bracket.BracketFault.{BracketFault}
 use Rattle.engine.specs.Brackets.{fault_from}
 use Rattle.engine.specs.Units.{units}

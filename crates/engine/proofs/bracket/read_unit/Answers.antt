@@ -1,4 +1,4 @@
-use Rattle.std.proofs.Common.{◌≡◌, false, Option, sym}
+use Rattle.std.proofs.Common.{sym}
 use Rattle.engine.proofs.Units.{taken_opening, next_token}
 use Rattle.engine.proofs.bracket.read_unit.Goals as goal
 

@@ -1,4 +1,3 @@
-use Rattle.std.proofs.Common.{vec_items, sym, refl, ap, ◌∙◌, subst, arith}
 use Rattle.std.proofs.lemmas.Result.{IfOk-weaker}
 use Rattle.flow.proofs.Moves.{key_value}
 use Rattle.flow.proofs.reader.read_leaf.Goals as goal

@@ -1,5 +1,5 @@
-use Rattle.std.proofs.Common.{ℕ, ◌+◌, List, [], length, drop, vec_items, sym, refl, ap, ◌∙◌, subst, arith}
-use Rattle.std.proofs.lemmas.List.{append-nil, drop-drop, length-drop}
+use Rattle.std.proofs.Common.{ℕ, List, [], length, vec_items, sym, refl, ap, ◌∙◌, subst, arith}
+use Rattle.std.proofs.lemmas.List.{append-nil, length-drop}
 use Rattle.flow.specs.Scalars.{Wordless}
 use Rattle.flow.specs.Places.{Startless}
 use Rattle.flow.proofs.Complaints.{front}

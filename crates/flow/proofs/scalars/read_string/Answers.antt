@@ -1,4 +1,4 @@
-use Rattle.std.proofs.Common.{ℕ, List, [], length, pos, vec_items, sym, refl, ap, ◌∙◌, subst, arith, length-append}
+use Rattle.std.proofs.Common.{length, pos, vec_items, refl, ap, ◌∙◌, arith, length-append}
 use Rattle.flow.proofs.Pieces.{string_read}
 use Rattle.flow.proofs.Pushed.{pushed_node}
 use Rattle.flow.proofs.scalars.read_string.Goals as goal

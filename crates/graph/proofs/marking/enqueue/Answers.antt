@@ -1,4 +1,4 @@
-use Rattle.std.proofs.Common.{◌≡◌, Bool, true, false, set, sym, ap, ◌∙◌, arith}
+use Rattle.std.proofs.Common.{Bool, false, set, sym, ap, ◌∙◌, arith}
 use Rattle.std.proofs.lemmas.List.{set-get_or}
 use Rattle.std.proofs.lemmas.Bool.{cond-true}
 use Rattle.graph.proofs.marking.enqueue.Goals as goal

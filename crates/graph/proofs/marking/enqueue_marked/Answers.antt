@@ -1,4 +1,4 @@
-use Rattle.std.proofs.Common.{◌≡◌, Bool, List, take, vec_items, vec_capacity, sym, ap, ◌∙◌, subst, arith}
+use Rattle.std.proofs.Common.{Bool, List, vec_items, vec_capacity, ap, ◌∙◌, subst, arith}
 use Rattle.std.proofs.lemmas.List.{take_all}
 use Rattle.graph.specs.Spreading.{Lined}
 use Rattle.graph.proofs.Lining.{lined_more_marked, lined_more_unmarked}

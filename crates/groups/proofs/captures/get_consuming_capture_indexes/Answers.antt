@@ -1,7 +1,7 @@
-use Rattle.std.proofs.Common.{◌≡◌, ℕ, ◌+◌, ◌<◌, true, List, [], ◌∷◌, ◌++◌, length, take, is_err, Ok, Err, vec_items, Result, sym, refl, ap, ◌∙◌, arith}
+use Rattle.std.proofs.Common.{◌≡◌, ℕ, ◌+◌, ◌<◌, true, List, [], ◌∷◌, ◌++◌, length, take, is_err, Ok, Err, Result, sym, refl, ap, ◌∙◌, arith}
 use borrow.Author.Tests.{clash}
 use Rattle.std.proofs.lemmas.List.{append-nil}
-use Rattle.groups.specs.Captures.{consuming_captures, marks, valid_numbers}
+use Rattle.groups.specs.Captures.{marks, valid_numbers}
 use Rattle.groups.proofs.CaptureLaws.{captures_rise}
 use Rattle.buffer.specs.Appends.{Appended}
 use Rattle.buffer.proofs.Buffers.{fits}

@@ -1,4 +1,4 @@
-use Rattle.std.proofs.Common.{◌≡◌, ℕ, Bool, ◌&&◌, List, sym, refl, ap, ◌∙◌}
+use Rattle.std.proofs.Common.{Bool, ◌&&◌, sym, ap, ◌∙◌}
 use Rattle.groups.specs.Captures.{named, name_ends}
 use Rattle.groups.proofs.Marks.{named_front}
 use Rattle.tokens.proofs.Tokens.{front_none}

@@ -1,5 +1,5 @@
-use Rattle.std.proofs.Common.{◌≡◌, ℕ, Bool, List, ◌++◌, take, sym, ap, ◌∙◌, arith}
-use Rattle.groups.specs.Captures.{Mark, marks, groups_after, listed, valid_numbers, depth_after}
+use Rattle.std.proofs.Common.{ℕ, take, sym, ap, ◌∙◌, arith}
+use Rattle.groups.specs.Captures.{marks, groups_after, listed, valid_numbers, depth_after}
 use Rattle.buffer.proofs.Buffers.{fits}
 use Rattle.groups.proofs.Marks.{number_bound, depth_bound, deep_after, mark_step, no_marks}
 use Rattle.buffer.proofs.Writes.{wrote, ended, refused}

@@ -1,4 +1,4 @@
-use Rattle.std.proofs.Common.{◌≡◌, sym, ◌∙◌}
+use Rattle.std.proofs.Common.{sym, ◌∙◌}
 use Rattle.judging.proofs.RecordLaws.{decided_at, decided_behind, decided_nowhere}
 use Rattle.judging.proofs.recorded.look_up.Goals as goal
 

@@ -1,4 +1,4 @@
-use Rattle.std.proofs.Common.{◌≡◌, ℕ, List, sym, ap, ◌∙◌, subst}
+use Rattle.std.proofs.Common.{ℕ, List, sym, subst}
 use Rattle.tokens.specs.Reads.{Taken}
 use Rattle.newlines.proofs.Pieces.{taken_optional, taken_token}
 use Rattle.newlines.proofs.newlines.read_piece.Goals as goal

@@ -1,6 +1,6 @@
-use Rattle.std.proofs.Common.{◌≡◌, take, vec_items, sym, ap, ◌∙◌}
+use Rattle.std.proofs.Common.{take, ap, ◌∙◌}
 use Rattle.std.specs.List.{flat_map}
-use Rattle.newlines.specs.Newlines.{with_newline, for_newlines}
+use Rattle.newlines.specs.Newlines.{with_newline}
 use Rattle.tokens.specs.Reads.{meant}
 use Rattle.tokens.specs.Tokens.{tokens}
 use Rattle.tokens.proofs.Tokens.{no_tokens}

@@ -1,4 +1,4 @@
-use Rattle.std.proofs.Common.{◌≡◌, length, vec_items}
+use Rattle.std.proofs.Common.{length, vec_items}
 use Rattle.std.specs.List.{flat_map}
 use Rattle.newlines.specs.Newlines.{with_newline, for_newlines}
 use Rattle.tokens.specs.Tokens.{tokens}

@@ -1,6 +1,6 @@
 use Rattle.std.proofs.Common.{◌≡◌, ℕ, List, ◌++◌, take, Option, sym, ap, ◌∙◌}
 use Rattle.tokens.specs.Cursor.{front}
-use Rattle.newlines.specs.Newlines.{without_newline, without_newlines, for_no_newlines, pieces}
+use Rattle.newlines.specs.Newlines.{without_newline, without_newlines, for_no_newlines}
 use Rattle.newlines.specs.declared.newlines.Piece.{Piece as Read}
 use Rattle.newlines.specs.Pieces.{meant_piece, TakenPiece}
 use Rattle.newlines.proofs.Pieces.{pieces_joined, no_pieces}

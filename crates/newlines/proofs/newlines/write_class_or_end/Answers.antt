@@ -1,4 +1,4 @@
-use Rattle.std.proofs.Common.{◌≡◌, length, sym, refl, ap, ◌∙◌, arith, length-append}
+use Rattle.std.proofs.Common.{length, refl, ap, arith, length-append}
 use Rattle.buffer.proofs.Buffers.{fits}
 use Rattle.buffer.proofs.Writes.{appended_last}
 use Rattle.newlines.proofs.newlines.write_class_or_end.Goals as goal

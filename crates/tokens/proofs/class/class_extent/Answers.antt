@@ -1,6 +1,4 @@
-use Rattle.std.proofs.Common.{◌≡◌, suc, ◌+◌, ◌≤◌, false, cond, length, get_or, drop, sym, refl, ap, ◌∙◌, arith}
-use Rattle.tokens.specs.Classes.{opened, stepped, closes}
-use Rattle.tokens.specs.Tokens.{class_length, newline_in}
+use Rattle.std.proofs.Common.{sym, ◌∙◌, arith}
 use Rattle.tokens.proofs.Classes.{length_on, length_closed, length_end, newline_on, newline_closed, newline_end, depth_on}
 use Rattle.tokens.proofs.class.class_extent.Goals as goal
 

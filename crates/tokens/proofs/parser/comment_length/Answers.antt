@@ -1,4 +1,4 @@
-use Rattle.std.proofs.Common.{◌≡◌, ℕ, suc, ◌+◌, ◌≤◌, Bool, true, false, cond, eqb, length, get_or, drop, sym, refl, ap, ◌∙◌, arith}
+use Rattle.std.proofs.Common.{◌≡◌, suc, ◌+◌, Bool, false, drop, ap, arith}
 use Rattle.tokens.specs.Tokens.{comment_length}
 use Rattle.tokens.proofs.Comments.{comment_escaped, comment_on, comment_closed, comment_end}
 use Rattle.tokens.proofs.parser.comment_length.Goals as goal

@@ -1,6 +1,5 @@
 use Rattle.std.proofs.Common.{length, vec_items}
-use Rattle.std.specs.List.{flat_map}
-use Rattle.tokens.specs.Posix.{token_with_properties, with_properties}
+use Rattle.tokens.specs.Posix.{with_properties}
 use Rattle.buffer.proofs.Writes.{Writing}
 use Rattle.tokens.proofs.posix.replace_posix_char_classes.Given as goal
 

@@ -1,4 +1,4 @@
-use Rattle.std.proofs.Common.{◌-◌, ◌<◌, ◌≤◌}
+use Rattle.std.proofs.Common.{◌-◌, ◌≤◌}
 use Rattle.std.specs.List.{AllByRecursion as All}
 use Rattle.tree_rule.specs.Nodes.{at, from}
 use Rattle.tree_rule.specs.Rule.{Filled}

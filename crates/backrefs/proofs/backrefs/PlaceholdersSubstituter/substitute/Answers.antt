@@ -1,6 +1,4 @@
-use Rattle.std.proofs.Common.{◌≡◌, ℕ, List}
-use Rattle.std.proofs.lemmas.Bool.{cond-true, lt-ltb}
-use Rattle.backrefs.specs.Backrefs.{placeholder}
+use Rattle.std.proofs.lemmas.Bool.{lt-ltb}
 use Rattle.backrefs.proofs.backrefs.PlaceholdersSubstituter.substitute.Goals as goal
 
 pub returns : goal.returns

@@ -1,5 +1,5 @@
 use Rattle.flow.proofs.Complaints.{closing_no_comma, told_comma}
-use Rattle.std.proofs.Common.{vec_items, sym, refl, ap, ◌∙◌, subst, arith}
+use Rattle.std.proofs.Common.{vec_items, ap, arith}
 use Rattle.std.proofs.lemmas.Result.{MatchResult-at_err, err_from_is_err_and, IfOk-at_ok}
 use Rattle.flow.proofs.Moves.{closes_first, closes_more}
 use Rattle.flow.proofs.reader.Reader.read_closing.Goals as goal

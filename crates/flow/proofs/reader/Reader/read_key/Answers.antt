@@ -1,4 +1,4 @@
-use Rattle.std.proofs.Common.{reverse, vec_items, sym, refl, ap, ◌∙◌, subst, arith}
+use Rattle.std.proofs.Common.{reverse, vec_items}
 use Rattle.flow.proofs.Steps.{behind_key}
 use Rattle.flow.proofs.reader.Reader.read_key.Goals as goal
 

@@ -1,5 +1,5 @@
 use Rattle.flow.proofs.Complaints.{front}
-use Rattle.std.proofs.Common.{vec_items, sym, refl, ap, ◌∙◌, subst, arith}
+use Rattle.std.proofs.Common.{vec_items, arith}
 use Rattle.flow.proofs.Moves.{comma_here}
 use Rattle.flow.proofs.reader.Reader.read_next.Goals as goal
 

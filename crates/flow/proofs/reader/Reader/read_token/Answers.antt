@@ -1,5 +1,5 @@
 use Rattle.std.proofs.lemmas.List.{length-drop}
-use Rattle.std.proofs.Common.{reverse, get_or, drop, vec_items, sym, refl, ap, ◌∙◌, subst, arith}
+use Rattle.std.proofs.Common.{reverse, get_or, drop, vec_items, sym, ap, subst, arith}
 use Rattle.std.proofs.lemmas.Result.{IfOk-weaker}
 use Rattle.flow.specs.declared.reader.Wants.{Wants}
 use Rattle.flow.specs.Sofar.{MayClose, Sofar}

@@ -1,4 +1,4 @@
-use Rattle.std.proofs.Common.{◌≡◌, ℕ, List, Some, sym, ap, ◌∙◌, subst}
+use Rattle.std.proofs.Common.{Some, sym, ap, ◌∙◌, subst}
 use Rattle.tree_rule.specs.declared.node.RawNode.{RawNode}
 use Rattle.tree_rule.specs.Nodes.{bytes}
 use Rattle.tree_rule.specs.Rule.{Lies}

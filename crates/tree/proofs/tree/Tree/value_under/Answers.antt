@@ -1,9 +1,9 @@
-use Rattle.std.proofs.Common.{◌≡◌, ◌<◌, length, sym, refl, ◌∙◌, arith}
+use Rattle.std.proofs.Common.{refl, ◌∙◌, arith}
 use Rattle.tree_rule.specs.Nodes.{at}
 use Rattle.tree.proofs.Known.{ended_known, turn_known}
 use Rattle.tree_rule.proofs.Walks.{forward}
 use Rattle.tree_rule.proofs.Turns.{pair_here}
-use Rattle.tree.proofs.Finding.{Behind, found_here, not_here, nowhere}
+use Rattle.tree.proofs.Finding.{found_here, not_here, nowhere}
 use Rattle.tree.proofs.tree.Tree.value_under.Goals as goal
 
 pub loop-key-init : goal.loop-key-init
