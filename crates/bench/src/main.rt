@@ -1,6 +1,7 @@
 //! Measures marking on generated graphs: how many places are marked on standard output, times on standard error.
 
 #![tactic(auto)]
+
 ghost use Rattle.std.specs.Prelude.{◌≡◌, count_by};
 
 mod generated;

@@ -1,4 +1,4 @@
-use Rattle.std.proofs.Common.{◌≡◌, Bool, false, List, count_by, sym, ap, ◌∙◌, arith}
+use Rattle.std.proofs.Common.{Bool, false, List, count_by, ap, ◌∙◌, arith}
 use Rattle.std.proofs.lemmas.List.{take_all}
 use Rattle.std.proofs.lemmas.List.Sums.{count_by_more_yes, count_by_more_no}
 use Rattle.bench.proofs.count_marked.Goals as goal
