@@ -1,7 +1,7 @@
 -- What a history answers follows from what its offers mean.
 use Rattle.std.proofs.Common.{◌≡◌, ℕ, zero, suc, List, [], ◌∷◌, ◌++◌, sym, refl, ap, ◌∙◌, subst}
 use mathlib.Core.Path.{fun_ext}
-use Rattle.std.specs.List.{AllByRecursion as All}
+use Rattle.std.specs.List.{AllByRecursion}
 use Rattle.grammar.specs.declared.refusal.Refusal.{Refusal}
 use Rattle.grammar.specs.Places.{At}
 use Rattle.grammar.specs.Grammars.{Grammar}
@@ -23,7 +23,7 @@ module _ {F : Type 0} where
   call_at (d ∷ h) zero o a = (d, refl, a)
   call_at (d ∷ h) (suc i) o a = call_at h i o a
 
-  pub all_at : (P : Call F → Type 0) (h : List (Call F)) → All P h → (i : ℕ) (c : Call F) → At h i c → P c
+  pub all_at : (P : Call F → Type 0) (h : List (Call F)) → AllByRecursion P h → (i : ℕ) (c : Call F) → At h i c → P c
   all_at P [] p i c a = absurd a
   all_at P (d ∷ h) p zero c a = subst P a p.0
   all_at P (d ∷ h) p (suc i) c a = all_at P h p.1 i c a

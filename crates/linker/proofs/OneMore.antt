@@ -1,6 +1,6 @@
 -- One tree more changes only what the law names.
 use Rattle.std.proofs.Common.{◌≡◌, ℕ, zero, suc, ◌+◌, ◌<◌, ◌≤◌, ltb, ◌⊎◌, List, [], ◌∷◌, ◌++◌, length, sym, refl, ap, ◌∙◌, subst, inl, inr, ⊎_elim, append_assoc, arith, le-ltb, lt-ltb}
-use Rattle.std.specs.List.{AllByRecursion as All}
+use Rattle.std.specs.List.{AllByRecursion}
 use Rattle.std.proofs.lemmas.Bool.{cases_lt, cond-true, cond-false}
 use Rattle.grammar.specs.Places.{At}
 use Rattle.grammar.specs.Grammars.{Reference, named, inline, by_scope, file, Grammar}
@@ -97,7 +97,7 @@ as_many_grammars : (ts : List Taken) → length (grammars_of ts) ≡ length ts
 as_many_grammars [] = refl
 as_many_grammars (t ∷ ts) = ap suc (as_many_grammars ts)
 
-all_but : {A : Type 0} (P : A → Type 0) (xs : List A) (x : A) (ys : List A) → All P (xs ++ x ∷ ys) → All P (xs ++ ys)
+all_but : {A : Type 0} (P : A → Type 0) (xs : List A) (x : A) (ys : List A) → AllByRecursion P (xs ++ x ∷ ys) → AllByRecursion P (xs ++ ys)
 all_but P [] x ys p = p.1
 all_but P (y ∷ xs) x ys p = (p.0, all_but P xs x ys p.1)
 

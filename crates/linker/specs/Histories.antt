@@ -4,7 +4,7 @@ use Rattle.std.proofs.Common.{ap}
 use mathlib.Core.List.{List-discrete}
 use Rattle.std.proofs.Math.Decide.{ℕ_discrete}
 use Rattle.std.proofs.Math.IntN.{ℤ_discrete}
-use Rattle.std.specs.List.{AllByRecursion as All}
+use Rattle.std.specs.List.{AllByRecursion}
 use Rattle.tree.specs.Values.{Value, value_discrete}
 use Rattle.grammar.specs.declared.refusal.Refusal.{Refusal}
 use Rattle.grammar.specs.declared.refusal.Refusal.TheVariants.{FallbackNotUtf8, WrongKind, MissingKey, TooManyAtoms, ReservedName, TooLong, MainMissing, EngineFault}
@@ -75,7 +75,7 @@ Answers outcome no_room = AsksForRoom outcome
 
 -- each call of a history answers what its offer means
 abbrev pub History : {F : Type 0} → Meaning F → Verdicts F → List (Call F) → Type 0
-History meaning verdict calls = All (λ c. Answers (meaning verdict c.offer) c.answer) calls
+History meaning verdict calls = AllByRecursion (λ c. Answers (meaning verdict c.offer) c.answer) calls
 
 abbrev pub HadRoom : {F : Type 0} → Answer F → Type 0
 HadRoom (accepted g) = Unit {0}
@@ -84,7 +84,7 @@ HadRoom no_room = ⊥
 
 -- no call is refused for room
 abbrev pub RoomThroughout : {F : Type 0} → List (Call F) → Type 0
-RoomThroughout calls = All (λ c. HadRoom c.answer) calls
+RoomThroughout calls = AllByRecursion (λ c. HadRoom c.answer) calls
 
 abbrev pub offers : {F : Type 0} → List (Call F) → List Offer
 offers [] = []

@@ -1,6 +1,6 @@
 -- A rewriting leaves the bytes of a comment as they are.
 use Rattle.std.proofs.Common.{◌≡◌, ℕ, Bool, true, false, cond, eqb, List, [], ◌∷◌, ◌++◌, take, Some, None, sym, refl, ap, ◌∙◌, subst, ⊎_elim}
-use Rattle.std.specs.List.{flat_map, AllByRecursion as All}
+use Rattle.std.specs.List.{flat_map, AllByRecursion}
 use Rattle.std.proofs.lemmas.List.{append_assoc}
 use Rattle.std.proofs.lemmas.Bool.{cases_eq}
 use borrow.Author.Tests.{clash}
@@ -53,7 +53,7 @@ piece_opens b bs _ = go (starts optional_newline (b ∷ bs)) (eqb b 92) bs (eqb 
   go false false ys false true e = comment_opens b bs e
   go false false ys false false e = tt
 
-in_middle : {A : Type 0} (Q : A → Type 0) (xs : List A) (y : A) (zs : List A) → All Q (xs ++ y ∷ zs) → Q y
+in_middle : {A : Type 0} (Q : A → Type 0) (xs : List A) (y : A) (zs : List A) → AllByRecursion Q (xs ++ y ∷ zs) → Q y
 in_middle Q [] y zs a = a.0
 in_middle Q (x ∷ xs) y zs a = in_middle Q xs y zs a.1
 
@@ -82,6 +82,6 @@ without_append (p ∷ ps) qs e =
 
 pub no_newlines_keep_comments : NoNewlinesKeepComments
 no_newlines_keep_comments bs cs ps qs e =
-    let all : All Opens (pieces bs) = each_cut first_piece spelled_piece (λ _. Unit {0}) Opens (λ _ _ _. tt) piece_opens bs tt in
-    let begins : front cs ≡ Some 40 = in_middle Opens ps (token (comment cs)) qs (subst (All Opens) e all) in
+    let all : AllByRecursion Opens (pieces bs) = each_cut first_piece spelled_piece (λ _. Unit {0}) Opens (λ _ _ _. tt) piece_opens bs tt in
+    let begins : front cs ≡ Some 40 = in_middle Opens ps (token (comment cs)) qs (subst (AllByRecursion Opens) e all) in
     ap without_newlines e ∙ without_append ps (token (comment cs) ∷ qs) (front_append 40 cs (flat_map spelled_piece qs) begins)

@@ -1,7 +1,7 @@
 -- Edits that leave UTF-8 as it is: a byte stays, or an ASCII byte gives way to ASCII bytes, and ASCII bytes may be added at the very end.
 use Rattle.std.proofs.Common.{◌≡◌, ℕ, zero, suc, ◌<◌, ◌≤◌, Bool, true, ◌&&◌, ltb, ◌⊎◌, List, [], ◌∷◌, ◌++◌, length, IsUtf8, IsAscii, sym, refl, ap, ◌∙◌, subst, inl, inr, arith, length-drop}
 use lib.Utf8.{scalar, scalars, encode, encodes}
-use Rattle.std.specs.List.{flat_map, AllByRecursion as All}
+use Rattle.std.specs.List.{flat_map, AllByRecursion}
 use Rattle.std.proofs.lemmas.List.{append_assoc, append-nil}
 use Rattle.std.proofs.lemmas.Bool.{and_parts, and_from, cases_lt, cond-false, cond_both, le-ltb, ltb-true}
 use Rattle.std.proofs.lemmas.Str.{encode_ascii, IsUtf8-append, IsUtf8-encode, IsUtf8-from_ascii}
@@ -31,15 +31,15 @@ ascii_utf8 : (bs : List ℕ) → ascii bs ≡ true → IsUtf8 bs
 ascii_utf8 bs e = IsUtf8-from_ascii bs (is_ascii bs e)
 
 -- the bytes of a character beyond ASCII are beyond ASCII
-high_bytes : (c : ℕ) → 128 ≤ c → All (λ b. 128 ≤ b) (encode c)
+high_bytes : (c : ℕ) → 128 ≤ c → AllByRecursion (λ b. 128 ≤ b) (encode c)
 unfolding encode
 high_bytes c h =
-    subst (All (λ b. 128 ≤ b)) (sym (cond-false (ltb c 128) _ _ (le-ltb c 128 h)))
-    (cond_both (ltb c 2048) _ _ (All (λ b. 128 ≤ b)) (λ _. (omega arith, (omega arith, tt)))
-    (λ _. cond_both (ltb c 65536) _ _ (All (λ b. 128 ≤ b)) (λ _. (omega arith, (omega arith, (omega arith, tt)))) (λ _. (omega arith, (omega arith, (omega arith, (omega arith, tt)))))))
+    subst (AllByRecursion (λ b. 128 ≤ b)) (sym (cond-false (ltb c 128) _ _ (le-ltb c 128 h)))
+    (cond_both (ltb c 2048) _ _ (AllByRecursion (λ b. 128 ≤ b)) (λ _. (omega arith, (omega arith, tt)))
+    (λ _. cond_both (ltb c 65536) _ _ (AllByRecursion (λ b. 128 ≤ b)) (λ _. (omega arith, (omega arith, (omega arith, tt)))) (λ _. (omega arith, (omega arith, (omega arith, (omega arith, tt)))))))
 
 -- and all of them stay
-high_kept : (hs xs ys : List ℕ) → All (λ b. 128 ≤ b) hs → Edit (hs ++ xs) ys → (zs : List ℕ) × (ys ≡ hs ++ zs) × Edit xs zs
+high_kept : (hs xs ys : List ℕ) → AllByRecursion (λ b. 128 ≤ b) hs → Edit (hs ++ xs) ys → (zs : List ℕ) × (ys ≡ hs ++ zs) × Edit xs zs
 high_kept [] xs ys high e = (ys, refl, e)
 high_kept (h ∷ hs) xs ys high (inl e) =
     let more = high_kept hs xs e.0 high.1 e.2 in

@@ -1,6 +1,6 @@
 -- Patterns that a rewriting leaves as they are.
 use Rattle.std.proofs.Common.{◌≡◌, ℕ, pred, ◌+◌, ◌<◌, min, Bool, true, false, cond, eqb, List, [], ◌∷◌, ◌++◌, length, get_or, take, drop, Some, None, Option, sym, refl, ap, ◌∙◌, subst, ⊎_elim, arith, length-drop, length-take}
-use Rattle.std.specs.List.{flat_map, AllByRecursion as All}
+use Rattle.std.specs.List.{flat_map, AllByRecursion}
 use Rattle.std.proofs.lemmas.List.{get_or-drop, get_or-take}
 use Rattle.std.proofs.lemmas.Bool.{cond-false, cond_both, eqb-true, ne_eqb, cases_eq, and_left, or_from}
 use borrow.Author.Tests.{clash}
@@ -108,7 +108,7 @@ piece_kept b bs a next = go (starts optional_newline (b ∷ bs)) refl where
   go true e = absurd (subst (Apart 92 110) (starts_split optional_newline (b ∷ bs) e) a 3 (omega arith) refl refl)
   go false e = token_kept b bs a next
 
-without_same : (ps : List Piece) → All (λ p. (next : Option ℕ) → without_newline p next ≡ spelled_piece p) ps → without_newlines ps ≡ flat_map spelled_piece ps
+without_same : (ps : List Piece) → AllByRecursion (λ p. (next : Option ℕ) → without_newline p next ≡ spelled_piece p) ps → without_newlines ps ≡ flat_map spelled_piece ps
 without_same [] e = refl
 without_same (p ∷ ps) e =
     ap (λ (xs : List ℕ). xs ++ without_newlines ps) (e.0 _) ∙ ap (λ (xs : List ℕ). spelled_piece p ++ xs) (without_same ps e.1)

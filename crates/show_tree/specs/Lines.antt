@@ -1,6 +1,6 @@
 -- Lines of the input and of what is shown.
 use Rattle.std.specs.Prelude.{◌≡◌, ℕ, ◌-◌, ◌<◌, ◌≤◌, Bool, ◌&&◌, ◌||◌, List, [], ◌∷◌, ◌++◌, length, take, drop, codes, ◌==◌, slice_index}
-use Rattle.std.specs.List.{AllByRecursion as All}
+use Rattle.std.specs.List.{AllByRecursion}
 use Rattle.std.specs.Str.{bytes_eq}
 use Rattle.tree_rule.specs.declared.node.Kind.{Kind}
 use Rattle.tree_rule.specs.declared.node.Kind.TheVariants as kind
@@ -28,7 +28,7 @@ kind_word kind.Map = codes "map"
 pub record Forgot (node : ℕ) (before after : List ℕ) : Type 0 where
   pub gone : List ℕ
   pub whole : before ≡ after ++ gone
-  pub ended : All (λ e. e ≤ node) gone
+  pub ended : AllByRecursion (λ e. e ≤ node) gone
   pub around : 0 < length after → node < slice_index after (length after - 1)
 
 -- the depth of a node is the number of ends that are left; its own is put behind them

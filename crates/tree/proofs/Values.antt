@@ -1,6 +1,6 @@
 -- Well-formed arrays stand for exactly one value.
 use Rattle.std.proofs.Common.{◌≡◌, ℕ, zero, suc, ◌+◌, ◌-◌, ◌*◌, ◌<◌, ◌≤◌, Bool, true, false, cond, eqb, ltb, ◌⊎◌, List, length, ℤ, pos, negsuc, sym, refl, ap, ◌∙◌, subst, inl, inr, arith}
-use Rattle.std.specs.List.{AllByRecursion as All}
+use Rattle.std.specs.List.{AllByRecursion}
 use Rattle.std.proofs.lemmas.Bool.{cond-true, cond-false, lt-ltb, le-ltb, cases_lt}
 use Rattle.tree_rule.specs.declared.node.RawNode.{RawNode}
 use Rattle.tree_rule.specs.Nodes.{at, bytes, from}
@@ -111,7 +111,7 @@ pairs_step f ns text e c h (inr l) next =
 
 -- a node's children end by its end
 abbrev Fill : List RawNode → ℕ → ℕ → Type 0
-Fill ns e c = All (λ k. (at ns k).end ≤ e) (from ns e c)
+Fill ns e c = AllByRecursion (λ k. (at ns k).end ≤ e) (from ns e c)
 
 mutual
   stands_read : (f : ℕ) (ns : List RawNode) (text : List ℕ) (i : ℕ) → Formed ns text → i < length ns →

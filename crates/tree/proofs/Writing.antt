@@ -2,7 +2,7 @@
 use Rattle.std.proofs.Common.{◌≡◌, ℕ, ◌+◌, ◌-◌, ◌<◌, ◌≤◌, Bool, true, false, cond, ◌⊎◌, List, [], ◌∷◌, length, take, drop, ℤ, pos, IsUtf8, sym, refl, ap, ◌∙◌, subst, inl, inr, append-nil, arith, w64, SFits}
 use mir.Facts.{sfits_lit}
 use Rattle.std.proofs.ByRecursion.{All-from_get_or}
-use Rattle.std.specs.List.{AllByRecursion as All}
+use Rattle.std.specs.List.{AllByRecursion}
 use Rattle.std.proofs.lemmas.Bool.{cases_lt}
 use Rattle.tree_rule.specs.declared.node.RawNode.{RawNode}
 use Rattle.tree_rule.specs.Nodes.{at, none, raw, bytes, children, keys_of}
@@ -179,7 +179,7 @@ right_step ns text i t (map n es) l f b =
 
 -- the nodes from c on end by e
 items_fill : (ns : List RawNode) (text : List ℕ) (c t e : ℕ) (vs : Items) → LaidItems ns text c t vs → e ≡ c + items_size vs →
-    All (λ k. (at ns k).end ≤ e) (item_numbers vs)
+    AllByRecursion (λ k. (at ns k).end ≤ e) (item_numbers vs)
 items_fill ns text c t e no_item l p = tt
 items_fill ns text c t e (item v vs) l p =
     let q = laid_end ns text c t v l.0 in
@@ -189,7 +189,7 @@ items_fill ns text c t e (item v vs) l p =
     )
 
 entries_fill : (ns : List RawNode) (text : List ℕ) (c t e : ℕ) (es : Entries) → LaidEntries ns text c t es → e ≡ c + entries_size es →
-    All (λ k. (at ns k).end ≤ e) (entry_numbers es)
+    AllByRecursion (λ k. (at ns k).end ≤ e) (entry_numbers es)
 entries_fill ns text c t e no_entry l p = tt
 entries_fill ns text c t e (entry k v es) l p =
     let q = laid_end ns text c t k l.0 in
@@ -203,7 +203,7 @@ entries_fill ns text c t e (entry k v es) l p =
       ),
     )
 
-held_fill : (ns : List RawNode) (text : List ℕ) (i t : ℕ) (v : Value) → Laid ns text i t v → All (λ k. (at ns k).end ≤ (at ns i).end) (held v)
+held_fill : (ns : List RawNode) (text : List ℕ) (i t : ℕ) (v : Value) → Laid ns text i t v → AllByRecursion (λ k. (at ns k).end ≤ (at ns i).end) (held v)
 held_fill ns text i t (other n) l = tt
 held_fill ns text i t (boolean n b) l = tt
 held_fill ns text i t (integer n z) l = tt
@@ -219,7 +219,7 @@ laid_children ns text i t v fw l f b =
 
 filled_step : (ns : List RawNode) (text : List ℕ) → Forward ns (length ns) → Step ns text (length ns) (Filled ns)
 filled_step ns text fw i t v l f b =
-    subst (All (λ k. (at ns k).end ≤ (at ns i).end)) (sym (laid_children ns text i t v fw l f b)) (held_fill ns text i t v l)
+    subst (AllByRecursion (λ k. (at ns k).end ≤ (at ns i).end)) (sym (laid_children ns text i t v fw l f b)) (held_fill ns text i t v l)
 
 entries_turn : (es : Entries) → InTurn (entry_numbers es)
 entries_turn no_entry = tt
@@ -265,13 +265,13 @@ equal_same ns text i j k l s u (inr e) =
     (p ∙ ap by_number e.2 ∙ sym q, λ n. let z : ◌≡◌ {A = ℕ} 0 1 = cc in omega arith)
 
 unlike_nodes : (ns : List RawNode) (text : List ℕ) (k : Value) (ks : List Value) → Stands ns text (number k) k →
-    All (λ l. Stands ns text (number l) l) ks → All (λ l. SameKey k l → ⊥) ks →
-    All (λ j. Equal ns text (number k) j → ⊥) (numbers ks)
+    AllByRecursion (λ l. Stands ns text (number l) l) ks → AllByRecursion (λ l. SameKey k l → ⊥) ks →
+    AllByRecursion (λ j. Equal ns text (number k) j → ⊥) (numbers ks)
 unlike_nodes ns text k [] s ss a = tt
 unlike_nodes ns text k (l ∷ ls) s ss a =
     (λ e. a.0 (equal_same ns text (number k) (number l) k l s ss.0 e), unlike_nodes ns text k ls s ss.1 a.1)
 
-apart_nodes : (ns : List RawNode) (text : List ℕ) (ks : List Value) → All (λ k. Stands ns text (number k) k) ks → Apart SameKey ks →
+apart_nodes : (ns : List RawNode) (text : List ℕ) (ks : List Value) → AllByRecursion (λ k. Stands ns text (number k) k) ks → Apart SameKey ks →
     Apart (Equal ns text) (numbers ks)
 apart_nodes ns text [] ss a = tt
 apart_nodes ns text (k ∷ ks) ss a = (unlike_nodes ns text k ks ss.0 ss.1 a.0, apart_nodes ns text ks ss.1 a.1)
@@ -281,7 +281,7 @@ keys_numbers no_entry = refl
 keys_numbers (entry k v es) = ap (λ (ks : List ℕ). number k ∷ ks) (keys_numbers es)
 
 keys_stand : (ns : List RawNode) (text : List ℕ) (c t : ℕ) (es : Entries) → LaidEntries ns text c t es →
-    All (λ k. Stands ns text (number k) k) (map_keys es)
+    AllByRecursion (λ k. Stands ns text (number k) k) (map_keys es)
 keys_stand ns text c t no_entry l = tt
 keys_stand ns text c t (entry k v es) l = (
   subst (λ (x : ℕ). Stands ns text x k) (sym (laid_number ns text c t k l.0)) (laid_stands ns text c t k l.0),
@@ -310,22 +310,22 @@ mutual
   nests_laid : (ns : List RawNode) (text : List ℕ) (d i t : ℕ) (v : Value) → Forward ns (length ns) → Laid ns text i t v → Fair v →
       i + size v ≤ length ns → Deep d v → Nests d ns i
   nests_laid ns text d i t (other n) fw l f b h =
-      nests_node d ns i h (subst (All (Nests (d - 1) ns)) (sym (laid_children ns text i t (other n) fw l f b)) tt)
+      nests_node d ns i h (subst (AllByRecursion (Nests (d - 1) ns)) (sym (laid_children ns text i t (other n) fw l f b)) tt)
   nests_laid ns text d i t (boolean n y) fw l f b h =
-      nests_node d ns i h (subst (All (Nests (d - 1) ns)) (sym (laid_children ns text i t (boolean n y) fw l f b)) tt)
+      nests_node d ns i h (subst (AllByRecursion (Nests (d - 1) ns)) (sym (laid_children ns text i t (boolean n y) fw l f b)) tt)
   nests_laid ns text d i t (integer n z) fw l f b h =
-      nests_node d ns i h (subst (All (Nests (d - 1) ns)) (sym (laid_children ns text i t (integer n z) fw l f b)) tt)
+      nests_node d ns i h (subst (AllByRecursion (Nests (d - 1) ns)) (sym (laid_children ns text i t (integer n z) fw l f b)) tt)
   nests_laid ns text d i t (string n bs) fw l f b h =
-      nests_node d ns i h (subst (All (Nests (d - 1) ns)) (sym (laid_children ns text i t (string n bs) fw l f b)) tt)
+      nests_node d ns i h (subst (AllByRecursion (Nests (d - 1) ns)) (sym (laid_children ns text i t (string n bs) fw l f b)) tt)
   nests_laid ns text d i t (list n vs) fw l f b h =
-      nests_node d ns i h.0 (subst (All (Nests (d - 1) ns)) (sym (laid_children ns text i t (list n vs) fw l f b))
+      nests_node d ns i h.0 (subst (AllByRecursion (Nests (d - 1) ns)) (sym (laid_children ns text i t (list n vs) fw l f b))
       (items_nest ns text (d - 1) (i + 1) t vs fw l.2 f (omega arith) h.1))
   nests_laid ns text d i t (map n es) fw l f b h =
-      nests_node d ns i h.0 (subst (All (Nests (d - 1) ns)) (sym (laid_children ns text i t (map n es) fw l f b))
+      nests_node d ns i h.0 (subst (AllByRecursion (Nests (d - 1) ns)) (sym (laid_children ns text i t (map n es) fw l f b))
       (entries_nest ns text (d - 1) (i + 1) t es fw l.2 f.1 (omega arith) h.1))
 
   items_nest : (ns : List RawNode) (text : List ℕ) (d c t : ℕ) (vs : Items) → Forward ns (length ns) → LaidItems ns text c t vs → ItemsFair vs →
-      c + items_size vs ≤ length ns → ItemsDeep d vs → All (Nests d ns) (item_numbers vs)
+      c + items_size vs ≤ length ns → ItemsDeep d vs → AllByRecursion (Nests d ns) (item_numbers vs)
   items_nest ns text d c t no_item fw l f b h = tt
   items_nest ns text d c t (item v vs) fw l f b h = (
     subst (Nests d ns) (sym (laid_number ns text c t v l.0)) (nests_laid ns text d c t v fw l.0 f.0 (omega arith) h.0),
@@ -333,7 +333,7 @@ mutual
   )
 
   entries_nest : (ns : List RawNode) (text : List ℕ) (d c t : ℕ) (es : Entries) → Forward ns (length ns) → LaidEntries ns text c t es →
-      EntriesFair es → c + entries_size es ≤ length ns → EntriesDeep d es → All (Nests d ns) (entry_numbers es)
+      EntriesFair es → c + entries_size es ≤ length ns → EntriesDeep d es → AllByRecursion (Nests d ns) (entry_numbers es)
   entries_nest ns text d c t no_entry fw l f b h = tt
   entries_nest ns text d c t (entry k v es) fw l f b h = (
     subst (Nests d ns) (sym (laid_number ns text c t k l.0)) (nests_laid ns text d c t k fw l.0 f.0 (omega arith) h.0),

@@ -1,7 +1,7 @@
 -- The values that fit into arrays.
 use Rattle.std.specs.Prelude.{◌≡◌, ℕ, suc, ◌+◌, ◌-◌, ◌^◌, ◌<◌, ◌≤◌, List, [], ◌∷◌, ◌++◌, length, ℤ, IsUtf8, FitsSigned, ◌≢◌}
 use Rattle.std.specs.Int.{w64}
-use Rattle.std.specs.List.{AllByRecursion as All}
+use Rattle.std.specs.List.{AllByRecursion}
 use Rattle.tree_rule.specs.declared.node.RawNode.{RawNode}
 use Rattle.tree_rule.specs.Rule.{Apart, Formed}
 use Rattle.tree.specs.Values.{Value, Items, Entries, other, boolean, integer, string, list, map, no_item, item, no_entry, entry, Stands}
@@ -141,4 +141,4 @@ pub record Written (v : Value) : Type 0 where
   pub text : List ℕ
   pub formed : Formed nodes text
   pub stands : Stands nodes text 0 v
-  pub stored : All Stored nodes
+  pub stored : AllByRecursion Stored nodes

@@ -1,6 +1,6 @@
 -- The tree as a value, and what it is for a node to stand for a value.
 use Rattle.std.specs.Prelude.{◌≡◌, ℕ, zero, suc, ◌+◌, ◌-◌, ◌<◌, Bool, cond, List, [], ◌∷◌, ◌++◌, ℤ, pos}
-use Rattle.std.specs.List.{AllByRecursion as All}
+use Rattle.std.specs.List.{AllByRecursion}
 use Rattle.tree_rule.specs.declared.node.RawNode.{RawNode}
 use Rattle.tree_rule.specs.Nodes.{at, bytes}
 
@@ -88,4 +88,4 @@ numbers (v ∷ vs) = number v ∷ numbers vs
 -- the parts of a value are the nodes from i to e, each once and in order, and each node stands for its part
 pub record Whole (ns : List RawNode) (text : List ℕ) (i e : ℕ) (vs : List Value) : Type 0 where
   pub numbered : numbers vs ≡ counting (e - i) i
-  pub standing : All (λ v. Stands ns text (number v) v) vs
+  pub standing : AllByRecursion (λ v. Stands ns text (number v) v) vs

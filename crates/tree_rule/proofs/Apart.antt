@@ -1,6 +1,6 @@
 -- Laws of lists no two of which are related.
 use Rattle.std.proofs.Common.{◌≡◌, ℕ, ◌+◌, ◌<◌, ◌≤◌, List, [], ◌∷◌, length, get_or, drop}
-use Rattle.std.specs.List.{AllByRecursion as All}
+use Rattle.std.specs.List.{AllByRecursion}
 use Rattle.std.proofs.lemmas.List.{at_drop_more, at_drop_all}
 use Rattle.tree_rule.specs.Rule.{Apart}
 
@@ -11,11 +11,11 @@ drop_past : (xs : List ℕ) (i : ℕ) → length xs ≤ i → drop i xs ≡ []
 drop_past xs i h = at_drop_all (λ (ys : List ℕ). ys) xs i h
 
 pub apart_here : (R : ℕ → ℕ → Type 0) (xs : List ℕ) (i : ℕ) → i < length xs → Apart R (drop i xs) →
-    All (λ l. R (get_or xs i 0) l → ⊥) (drop (i + 1) xs) × Apart R (drop (i + 1) xs)
+    AllByRecursion (λ l. R (get_or xs i 0) l → ⊥) (drop (i + 1) xs) × Apart R (drop (i + 1) xs)
 apart_here R xs i h a = let e = drop_here xs i h in rw e at a
 
 pub apart_back : (R : ℕ → ℕ → Type 0) (xs : List ℕ) (i : ℕ) → i < length xs →
-    All (λ l. R (get_or xs i 0) l → ⊥) (drop (i + 1) xs) × Apart R (drop (i + 1) xs) → Apart R (drop i xs)
+    AllByRecursion (λ l. R (get_or xs i 0) l → ⊥) (drop (i + 1) xs) × Apart R (drop (i + 1) xs) → Apart R (drop i xs)
 apart_back R xs i h a = let e = drop_here xs i h in rw e a
 
 pub apart_past : (R : ℕ → ℕ → Type 0) (xs : List ℕ) (i : ℕ) → length xs ≤ i → Apart R (drop i xs)

@@ -1,6 +1,6 @@
 -- Laws of the walk over children.
 use Rattle.std.proofs.Common.{◌≡◌, ℕ, zero, suc, ◌+◌, ◌<◌, ◌≤◌, ltb, ◌⊎◌, List, [], ◌∷◌, length, sym, refl, ap, ◌∙◌, inl, inr, arith}
-use Rattle.std.specs.List.{AllByRecursion as All}
+use Rattle.std.specs.List.{AllByRecursion}
 use Rattle.std.proofs.lemmas.Bool.{cond-true, cond-false, lt-ltb, le-ltb, cases_lt}
 use Rattle.tree_rule.specs.declared.node.RawNode.{RawNode}
 use Rattle.tree_rule.specs.Nodes.{at, walk, from}
@@ -51,12 +51,12 @@ from_here ns e c fw l = one_less e ns c fw l
 
 -- what holds of each node from here on holds of this one and of each behind it
 pub all_here : (P : ℕ → Type 0) (ns : List RawNode) (e c : ℕ) → Forward ns e → c < e →
-    All P (from ns e c) → P c × All P (from ns e (at ns c).end)
+    AllByRecursion P (from ns e c) → P c × AllByRecursion P (from ns e (at ns c).end)
 all_here P ns e c fw l h = let e = from_here ns e c fw l in rw e at h
 
 pub all_back : (P : ℕ → Type 0) (ns : List RawNode) (e c : ℕ) → Forward ns e → c < e →
-    P c × All P (from ns e (at ns c).end) → All P (from ns e c)
+    P c × AllByRecursion P (from ns e (at ns c).end) → AllByRecursion P (from ns e c)
 all_back P ns e c fw l h = let e = from_here ns e c fw l in rw e h
 
-pub all_past : (P : ℕ → Type 0) (ns : List RawNode) (e c : ℕ) → e ≤ c → All P (from ns e c)
+pub all_past : (P : ℕ → Type 0) (ns : List RawNode) (e c : ℕ) → e ≤ c → AllByRecursion P (from ns e c)
 all_past P ns e c h = let e = from_past ns e c h in rw e tt

@@ -1,6 +1,6 @@
 -- The rule of a well-formed tree, clause by clause.
 use Rattle.std.specs.Prelude.{◌≡◌, ℕ, zero, suc, ◌+◌, ◌<◌, ◌≤◌, ◌⊎◌, List, [], ◌∷◌, length, pos, IsUtf8}
-use Rattle.std.specs.List.{AllByRecursion as All}
+use Rattle.std.specs.List.{AllByRecursion}
 use Rattle.tree_rule.specs.declared.node.RawNode.{RawNode}
 use Rattle.tree_rule.specs.Nodes.{at, children, keys, bytes}
 
@@ -55,7 +55,7 @@ Ended ns = (i : ℕ) → i < length ns → Ends (at ns i) i (length ns)
 
 -- the children fill their parent exactly: none ends behind it
 abbrev pub Filled : List RawNode → ℕ → Type 0
-Filled ns i = All (λ k. (at ns k).end ≤ (at ns i).end) (children ns i)
+Filled ns i = AllByRecursion (λ k. (at ns k).end ≤ (at ns i).end) (children ns i)
 
 abbrev pub InTurn : List ℕ → Type 0
 InTurn [] = Unit {0}
@@ -69,7 +69,7 @@ Paired ns i = (at ns i).kind ≡ 5 → InTurn (children ns i)
 -- a node with all that it holds nests at most so deep
 unfoldable pub Nests : ℕ → List RawNode → ℕ → Type 0
 Nests zero ns i = ⊥
-Nests (suc deep) ns i = All (Nests deep ns) (children ns i)
+Nests (suc deep) ns i = AllByRecursion (Nests deep ns) (children ns i)
 
 -- two keys that may not stand in one map
 abbrev pub Equal : List RawNode → List ℕ → ℕ → ℕ → Type 0
@@ -80,7 +80,7 @@ Equal ns text k l =
 -- no two of the list are related
 abbrev pub Apart : {X : Type 0} → (X → X → Type 0) → List X → Type 0
 Apart R [] = Unit {0}
-Apart R (k ∷ ks) = All (λ l. R k l → ⊥) ks × Apart R ks
+Apart R (k ∷ ks) = AllByRecursion (λ l. R k l → ⊥) ks × Apart R ks
 
 -- no map has two equal string keys or two equal integer keys
 abbrev pub Distinct : List RawNode → List ℕ → ℕ → Type 0

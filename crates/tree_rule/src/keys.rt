@@ -1,5 +1,5 @@
 ghost use Rattle.std.specs.Prelude.{◌≡◌, ◌<◌, ◌≤◌, length, vec_capacity, Decides};
-ghost use Rattle.std.specs.List.{AllByRecursion as All};
+ghost use Rattle.std.specs.List.{AllByRecursion};
 ghost use Rattle.tree_rule.specs.Nodes.{bytes, children, keys};
 ghost use Rattle.tree_rule.specs.Refusals.{Each, Holds, Sized};
 ghost use Rattle.tree_rule.specs.Rule.{Apart, Distinct, Ended, Equal, InTurn, Lies, Right};
@@ -44,9 +44,9 @@ fn is_equal(nodes: &[RawNode], text: &[u8], key: usize, other: usize) -> bool
 /// No later key equals this one.
 fn is_new(nodes: &[RawNode], text: &[u8], key: usize, later: &[u32]) -> bool
     requires key_in_bounds { key < length nodes.now }
-    requires all { All (λ k. k < length nodes.now) later.now }
+    requires all { AllByRecursion (λ k. k < length nodes.now) later.now }
     requires each { Each nodes.now (Right nodes.now text.now) }
-    ensures { Decides result (All (λ l. Equal nodes.now text.now key l → ⊥) later.now) }
+    ensures { Decides result (AllByRecursion (λ l. Equal nodes.now text.now key l → ⊥) later.now) }
 {
     for other in later {
         if is_equal(nodes, text, key, *other as usize) {
@@ -58,7 +58,7 @@ fn is_new(nodes: &[RawNode], text: &[u8], key: usize, later: &[u32]) -> bool
 
 /// No two of the keys are equal: each is compared with each.
 fn is_apart(nodes: &[RawNode], text: &[u8], keys: &[u32]) -> bool
-    requires all { All (λ k. k < length nodes.now) keys.now }
+    requires all { AllByRecursion (λ k. k < length nodes.now) keys.now }
     requires each { Each nodes.now (Right nodes.now text.now) }
     ensures { Decides result (Apart (Equal nodes.now text.now) keys.now) }
 {
@@ -78,7 +78,7 @@ fn collect_keys(nodes: &[RawNode], i: usize, found: &mut Vec<u32>)
     requires nodes_len_bound { length nodes.now ≤ vec_capacity found.old }
     ensures items { found.new.items ≡ keys nodes.now i }
     ensures capacity { vec_capacity found.old ≤ vec_capacity found.new }
-    ensures within { All (λ k. k < length nodes.now) found.new.items }
+    ensures within { AllByRecursion (λ k. k < length nodes.now) found.new.items }
 {
     found.clear();
     let end = nodes[i].end as usize;

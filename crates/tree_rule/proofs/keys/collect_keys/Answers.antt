@@ -1,5 +1,5 @@
 use Rattle.std.proofs.Common.{ℕ, ◌<◌, List, length, vec_items, sym, subst, arith}
-use Rattle.std.specs.List.{AllByRecursion as All}
+use Rattle.std.specs.List.{AllByRecursion}
 use Rattle.std.proofs.ByRecursion.{All-push}
 use Rattle.tree_rule.specs.Nodes.{at}
 use Rattle.tree_rule.proofs.Walks.{forward}
@@ -28,7 +28,7 @@ loop-key-preserved c =
     let on = fw c.loop-key.key c.loop-key-test.true in
     let on2 = fw (at ns c.loop-key.key).end p.valued in
     let P : ℕ → Type 0 = λ k. k < length ns in
-    let Q : List ℕ → Type 0 = All P in (
+    let Q : List ℕ → Type 0 = AllByRecursion P in (
       keys_more _ _ _ _ _ _ _ c.push_reserved.ensures.items p.walk c.loop-key.invariant.0,
       p.turn,
       omega arith,

@@ -1,5 +1,5 @@
 use Rattle.std.proofs.Common.{◌≡◌, ◌-◌, ◌<◌, ◌≤◌, ◌++◌, length, vec_items, vec_len, vec_capacity}
-use Rattle.std.specs.List.{AllByRecursion as All}
+use Rattle.std.specs.List.{AllByRecursion}
 use Rattle.tree_rule.specs.Nodes.{from, keys, keys_of}
 use Rattle.tree_rule.specs.Rule.{InTurn}
 use Rattle.tree_rule.proofs.keys.collect_keys.Given as goal
@@ -12,7 +12,7 @@ invariant-loop-key l =
     × (vec_len l.found < l.key)
     × (length l.nodes ≤ vec_capacity l.found)
     × (vec_capacity l.initial.found ≤ vec_capacity l.found)
-    × All (λ k. k < length l.nodes) (vec_items l.found)
+    × AllByRecursion (λ k. k < length l.nodes) (vec_items l.found)
 
 abbrev pub decreases-loop-key : goal.decreases-loop-key
 decreases-loop-key l = l.end - l.key
