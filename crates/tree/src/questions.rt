@@ -103,7 +103,7 @@ impl<'a> Tree<'a> {
     /// The value under a string key of a map.
     fn value_under(&self, map: usize, name: &[u8]) -> Option<usize>
         requires map_in_bounds { map < length self.now.nodes.now }
-        requires map_value { (at self.now.nodes.now map).kind ≡ 5 }
+        requires is_map { (at self.now.nodes.now map).kind ≡ 5 }
         ensures { (es : Entries) → Pairs self.now.nodes.now self.now.text.now (map + 1) (at self.now.nodes.now map).end es → find name.now es ≡ result }
     {
         let end = self.nodes[map].end as usize;
@@ -131,7 +131,7 @@ impl<'a> Tree<'a> {
 
 /// The bytes of a string.
 fn bytes_of<'a>(node: RawNode, text: &'a [u8]) -> &'a [u8]
-    requires kind_value { node.kind ≡ 3 }
+    requires is_string { node.kind ≡ 3 }
     requires lies { Lies node text.now }
     ensures { result.now ≡ bytes node text.now }
 {

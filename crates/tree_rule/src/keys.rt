@@ -9,7 +9,7 @@ use crate::workspace::Workspace;
 
 /// The bytes of a string.
 fn bytes_of<'a>(node: RawNode, text: &'a [u8]) -> &'a [u8]
-    requires kind_value { node.kind ≡ 3 }
+    requires is_string { node.kind ≡ 3 }
     requires lies { Lies node text.now }
     ensures { result.now ≡ bytes node text.now }
 {
@@ -19,7 +19,7 @@ fn bytes_of<'a>(node: RawNode, text: &'a [u8]) -> &'a [u8]
 
 /// Two strings have the same bytes.
 fn is_same_text(a: RawNode, b: RawNode, text: &[u8]) -> bool
-    requires kind_value { (a.kind ≡ 3) × (b.kind ≡ 3) }
+    requires are_strings { (a.kind ≡ 3) × (b.kind ≡ 3) }
     requires lies { Lies a text.now × Lies b text.now }
     ensures { Decides result (bytes a text.now ≡ bytes b text.now) }
 {
@@ -30,7 +30,7 @@ fn is_same_text(a: RawNode, b: RawNode, text: &[u8]) -> bool
 fn is_equal(nodes: &[RawNode], text: &[u8], key: usize, other: usize) -> bool
     requires key_in_bounds { key < length nodes.now }
     requires other_in_bounds { other < length nodes.now }
-    requires each { Each nodes.now (Right nodes.now text.now) }
+    requires right { Each nodes.now (Right nodes.now text.now) }
     ensures { Decides result (Equal nodes.now text.now key other) }
 {
     let a = nodes[key];
@@ -45,7 +45,7 @@ fn is_equal(nodes: &[RawNode], text: &[u8], key: usize, other: usize) -> bool
 fn is_new(nodes: &[RawNode], text: &[u8], key: usize, later: &[u32]) -> bool
     requires key_in_bounds { key < length nodes.now }
     requires all { AllByRecursion (λ k. k < length nodes.now) later.now }
-    requires each { Each nodes.now (Right nodes.now text.now) }
+    requires right { Each nodes.now (Right nodes.now text.now) }
     ensures { Decides result (AllByRecursion (λ l. Equal nodes.now text.now key l → ⊥) later.now) }
 {
     for other in later {
@@ -59,7 +59,7 @@ fn is_new(nodes: &[RawNode], text: &[u8], key: usize, later: &[u32]) -> bool
 /// No two of the keys are equal: each is compared with each.
 fn is_apart(nodes: &[RawNode], text: &[u8], keys: &[u32]) -> bool
     requires all { AllByRecursion (λ k. k < length nodes.now) keys.now }
-    requires each { Each nodes.now (Right nodes.now text.now) }
+    requires right { Each nodes.now (Right nodes.now text.now) }
     ensures { Decides result (Apart (Equal nodes.now text.now) keys.now) }
 {
     for i in 0..keys.len() {
@@ -75,7 +75,7 @@ fn collect_keys(nodes: &[RawNode], i: usize, found: &mut Vec<u32>)
     requires i_in_bounds { i < length nodes.now }
     requires ended { Ended nodes.now }
     requires in_turn { InTurn (children nodes.now i) }
-    requires nodes_len_bound { length nodes.now ≤ vec_capacity found.old }
+    requires room { length nodes.now ≤ vec_capacity found.old }
     ensures items { found.new.items ≡ keys nodes.now i }
     ensures capacity { vec_capacity found.old ≤ vec_capacity found.new }
     ensures within { AllByRecursion (λ k. k < length nodes.now) found.new.items }
@@ -94,8 +94,8 @@ fn collect_keys(nodes: &[RawNode], i: usize, found: &mut Vec<u32>)
 pub(crate) fn is_distinct(nodes: &[RawNode], text: &[u8], i: usize, work: &mut Workspace) -> bool
     requires i_in_bounds { i < length nodes.now }
     requires sized { Sized nodes.now text.now }
-    requires each { Each nodes.now (Right nodes.now text.now) }
-    requires each_2 { Each nodes.now (Holds nodes.now) }
+    requires right { Each nodes.now (Right nodes.now text.now) }
+    requires holds { Each nodes.now (Holds nodes.now) }
     ensures { Decides result (Distinct nodes.now text.now i) }
 {
     if nodes[i].kind != 5 {

@@ -127,7 +127,7 @@ fn is_paired(nodes: &[RawNode], i: usize) -> bool
 /// Each node's children fill it, and each map's are key and value in turn.
 fn check_children(nodes: &[RawNode], text: &[u8]) -> Result<(), Refusal>
     requires sized { Sized nodes.now text.now }
-    requires each { Each nodes.now (Right nodes.now text.now) }
+    requires right { Each nodes.now (Right nodes.now text.now) }
     ensures { MatchResult result (λ _. Each nodes.now (Holds nodes.now)) (Refuses nodes.now text.now) }
 {
     for i in 0..nodes.len() {
@@ -164,8 +164,8 @@ fn nests(nodes: &[RawNode], i: usize, deep: usize) -> bool
 /// Nodes nest at most 64 deep, the root being at 1.
 fn check_nesting(nodes: &[RawNode], text: &[u8]) -> Result<(), Refusal>
     requires sized { Sized nodes.now text.now }
-    requires each { Each nodes.now (Right nodes.now text.now) }
-    requires each_2 { Each nodes.now (Holds nodes.now) }
+    requires right { Each nodes.now (Right nodes.now text.now) }
+    requires holds { Each nodes.now (Holds nodes.now) }
     ensures { MatchResult result (λ _. Nests 64 nodes.now 0) (Refuses nodes.now text.now) }
 {
     if !nests(nodes, 0, MAX_DEPTH) {
@@ -177,8 +177,8 @@ fn check_nesting(nodes: &[RawNode], text: &[u8]) -> Result<(), Refusal>
 /// No map has two equal keys.
 fn check_keys(nodes: &[RawNode], text: &[u8], work: &mut Workspace) -> Result<(), Refusal>
     requires sized { Sized nodes.now text.now }
-    requires each { Each nodes.now (Right nodes.now text.now) }
-    requires each_2 { Each nodes.now (Holds nodes.now) }
+    requires right { Each nodes.now (Right nodes.now text.now) }
+    requires holds { Each nodes.now (Holds nodes.now) }
     requires nests { Nests 64 nodes.now 0 }
     ensures { MatchResult result (λ _. Each nodes.now (Distinct nodes.now text.now)) (Refuses nodes.now text.now) }
 {

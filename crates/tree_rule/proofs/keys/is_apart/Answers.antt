@@ -12,7 +12,7 @@ is_new-requires c =
     let e = take_rest c.args.keys.now (c.loop-i.i + 1) in record {
       key_in_bounds = All-get_or (λ k. k < n) c.args.keys.now c.loop-i.i 0 c.loop-i-test.true c.requires.all;
       all = rw e (All-drop (λ k. k < n) (c.loop-i.i + 1) c.args.keys.now c.requires.all);
-      each = c.requires.each;
+      right = c.requires.right;
     }
 
 pub returns-then-not-is_new : goal.returns-then-not-is_new

@@ -9,7 +9,7 @@ pub is_equal-requires : goal.is_equal-requires
 is_equal-requires c = record {
   key_in_bounds = c.requires.key_in_bounds;
   other_in_bounds = All-get_or (λ k. k < length c.args.nodes.now) c.args.later.now c.loop-other.other-index 0 c.loop-other-test.true c.requires.all;
-  each = c.requires.each;
+  right = c.requires.right;
 }
 
 pub returns-then-is_equal : goal.returns-then-is_equal

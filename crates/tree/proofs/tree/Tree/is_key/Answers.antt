@@ -7,7 +7,7 @@ use Rattle.tree.proofs.tree.Tree.is_key.Goals as goal
 use Rattle.std.proofs.lemmas.Bool.Decides.{Decides-eqb}
 
 pub bytes_of-requires : goal.bytes_of-requires
-bytes_of-requires c = record { kind_value = c.if-raw-eq3.true; lies = lies_known _ _ _ c.args.self.now.formed c.requires }
+bytes_of-requires c = record { is_string = c.if-raw-eq3.true; lies = lies_known _ _ _ c.args.self.now.formed c.requires }
 
 pub returns-then-raw-eq3 : goal.returns-then-raw-eq3
 returns-then-raw-eq3 c =

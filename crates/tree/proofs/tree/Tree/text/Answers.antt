@@ -14,7 +14,7 @@ returns-then-raw-ne3 c =
 pub bytes_of-requires : goal.bytes_of-requires
 bytes_of-requires c =
     let f = c.in_ok-raw.ensures in record {
-      kind_value = c.if-raw-ne3.false;
+      is_string = c.if-raw-ne3.false;
       lies = subst (λ (n : RawNode). Lies n c.args.self.now.text.now) (sym f.1) (lies_known _ _ _ c.args.self.now.formed f.0);
     }
 

@@ -8,7 +8,7 @@ use Rattle.tree.proofs.tree.Tree.value_under.Goals as goal
 
 pub loop-key-init : goal.loop-key-init
 loop-key-init c = (
-  turn_known _ _ _ c.args.self.now.formed c.requires.map_in_bounds c.requires.map_value,
+  turn_known _ _ _ c.args.self.now.formed c.requires.map_in_bounds c.requires.is_map,
   λ es p. record { rest = es; pairs = p; finds = refl },
 )
 
