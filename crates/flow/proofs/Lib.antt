@@ -1,4 +1,3 @@
-pub mod Complaints
 pub mod Moves
 pub mod Numbers
 pub mod Opens

@@ -32,9 +32,9 @@ Complaint NoMemory bs = Unit {0}
 abbrev pub Told : List ℕ → Misread → Type 0
 Told input m = (m.place ≤ length input) × Complaint m.reason (drop m.place input)
 
--- what was read ends behind the place, within the document; what could not be read is told of
-abbrev pub Onward : ℕ → List ℕ → Result ℕ Misread → Type 0
-Onward place input r = MatchResult r (λ p. (place < p) × (p ≤ length input)) (λ m. Told input m)
+-- what was read ends behind the place, within the document; what could not be read is told of within it
+abbrev pub Onward : ℕ → ℕ → Result ℕ Misread → Type 0
+Onward place long r = MatchResult r (λ p. (place < p) × (p ≤ long)) (λ m. m.place ≤ long)
 
 -- there was no room for what was read
 abbrev pub NoRoom : Reason → Type 0

@@ -114,7 +114,8 @@ impl Reader {
         arrays: &mut Arrays,
     ) -> Result<usize, Misread>
         requires { place < length input.now }
-        ensures range { Onward place input.now result }
+        ensures range { Onward place (length input.now) result }
+        ensures told { IfErr result (λ m. Told input.now m) }
         ensures sofar { IfOk result (λ end. Keeps input.now (Awaits (Item true) input.now (reverse self.old.open.items)) place end arrays.old.nodes.items arrays.old.text.items self.new.wants (reverse self.new.open.items) arrays.new.nodes.items arrays.new.text.items) }
     {
         let end = read_scalar(input, place, arrays)?;
@@ -132,7 +133,8 @@ impl Reader {
     ) -> Result<usize, Misread>
         requires place_in_bounds { place < length input.now }
         requires place_value { slice_index input.now place ≡ opening is_map }
-        ensures range { Onward place input.now result }
+        ensures range { Onward place (length input.now) result }
+        ensures told { IfErr result (λ m. Told input.now m) }
         ensures sofar { IfOk result (λ end. Keeps input.now (Awaits Value input.now (reverse self.old.open.items)) place end arrays.old.nodes.items arrays.old.text.items self.new.wants (reverse self.new.open.items) arrays.new.nodes.items arrays.new.text.items) }
     {
         placed(place, self.enter(is_map, arrays))?;
@@ -149,7 +151,8 @@ impl Reader {
     ) -> Result<usize, Misread>
         requires place_in_bounds { place < length input.now }
         requires place_value { slice_index input.now place ≡ closing is_map }
-        ensures range { Onward place input.now result }
+        ensures range { Onward place (length input.now) result }
+        ensures told { IfErr result (λ m. Told input.now m) }
         ensures refused { OnErr result (Other is_map self.old.open.items) }
         ensures more { IfOk result (λ end. Keeps input.now (AwaitsMore input.now (reverse self.old.open.items)) place end arrays.old.nodes.items arrays.old.text.items self.new.wants (reverse self.new.open.items) arrays.new.nodes.items arrays.new.text.items) }
         ensures first { IfOk result (λ end. Keeps input.now (AwaitsFirst is_map input.now (reverse self.old.open.items)) place end arrays.old.nodes.items arrays.old.text.items self.new.wants (reverse self.new.open.items) arrays.new.nodes.items arrays.new.text.items) }
@@ -166,7 +169,8 @@ impl Reader {
         arrays: &mut Arrays,
     ) -> Result<usize, Misread>
         requires { place < length input.now }
-        ensures range { Onward place input.now result }
+        ensures range { Onward place (length input.now) result }
+        ensures told { IfErr result (λ m. Told input.now m) }
         ensures sofar { IfOk result (λ end. Keeps input.now (Awaits Value input.now (reverse self.old.open.items)) place end arrays.old.nodes.items arrays.old.text.items self.new.wants (reverse self.new.open.items) arrays.new.nodes.items arrays.new.text.items) }
     {
         match input[place] {
@@ -188,7 +192,8 @@ impl Reader {
         arrays: &mut Arrays,
     ) -> Result<usize, Misread>
         requires { place < length input.now }
-        ensures range { Onward place input.now result }
+        ensures range { Onward place (length input.now) result }
+        ensures told { IfErr result (λ m. Told input.now m) }
         ensures refused_list { slice_index input.now place ≡ 93 → OnErr result (Other false self.old.open.items) }
         ensures refused_map { slice_index input.now place ≡ 125 → OnErr result (Other true self.old.open.items) }
         ensures sofar { IfOk result (λ end. Keeps input.now (AwaitsMore input.now (reverse self.old.open.items)) place end arrays.old.nodes.items arrays.old.text.items self.new.wants (reverse self.new.open.items) arrays.new.nodes.items arrays.new.text.items) }
@@ -210,7 +215,8 @@ impl Reader {
     /// Reads the colon behind a key.
     fn read_colon(&mut self, input: &[u8], place: usize) -> Result<usize, Misread>
         requires { place < length input.now }
-        ensures range { Onward place input.now result }
+        ensures range { Onward place (length input.now) result }
+        ensures told { IfErr result (λ m. Told input.now m) }
         ensures is { IfOk result (λ end. (slice_index input.now place ≡ 58) × (end ≡ place + 1)) }
         ensures wants { OnOk result (self.new.wants ≡ WantsValue) }
         ensures open { self.new.open ≡ self.old.open }
@@ -233,7 +239,8 @@ impl Reader {
         arrays: &mut Arrays,
     ) -> Result<usize, Misread>
         requires { place < length input.now }
-        ensures range { Onward place input.now result }
+        ensures range { Onward place (length input.now) result }
+        ensures told { IfErr result (λ m. Told input.now m) }
         ensures closes { MayClose self.old.wants (slice_index input.now place) self.old.open.items result }
         ensures sofar { IfOk result (λ end. Keeps input.now (Sofar input.now self.old.wants (reverse self.old.open.items)) place end arrays.old.nodes.items arrays.old.text.items self.new.wants (reverse self.new.open.items) arrays.new.nodes.items arrays.new.text.items) }
     {
@@ -277,9 +284,9 @@ fn word(bytes: &[u8]) -> Option<(u32, i64, usize)>
 
 /// Reads `true`, `false` or `null`.
 fn read_word(input: &[u8], place: usize, arrays: &mut Arrays) -> Result<usize, Misread>
-    requires place_in_bounds { place < length input.now }
-    requires startless { Startless (slice_index input.now place) }
-    ensures range { Onward place input.now result }
+    requires { place < length input.now }
+    ensures range { Onward place (length input.now) result }
+    ensures told { Startless (slice_index input.now place) → IfErr result (λ m. Told input.now m) }
     ensures reads { IfOk result (λ end. Read Value input.now place end arrays.old.nodes.items arrays.new.nodes.items arrays.old.text.items arrays.new.text.items) }
 {
     let Some((kind, number, width)) = word(behind(input, place)) else {
@@ -295,7 +302,8 @@ fn read_word(input: &[u8], place: usize, arrays: &mut Arrays) -> Result<usize, M
 /// Reads a string or an integer.
 fn read_scalar(input: &[u8], place: usize, arrays: &mut Arrays) -> Result<usize, Misread>
     requires { place < length input.now }
-    ensures range { Onward place input.now result }
+    ensures range { Onward place (length input.now) result }
+    ensures told { IfErr result (λ m. Told input.now m) }
     ensures reads { IfOk result (λ end. Read Key input.now place end arrays.old.nodes.items arrays.new.nodes.items arrays.old.text.items arrays.new.text.items) }
 {
     match input[place] {
@@ -312,7 +320,8 @@ fn read_scalar(input: &[u8], place: usize, arrays: &mut Arrays) -> Result<usize,
 fn read_leaf(input: &[u8], place: usize, arrays: &mut Arrays) -> Result<usize, Misread>
     requires place_in_bounds { place < length input.now }
     requires place_nonzero { (slice_index input.now place ≢ 91) × (slice_index input.now place ≢ 123) }
-    ensures range { Onward place input.now result }
+    ensures range { Onward place (length input.now) result }
+    ensures told { IfErr result (λ m. Told input.now m) }
     ensures reads { IfOk result (λ end. Read Value input.now place end arrays.old.nodes.items arrays.new.nodes.items arrays.old.text.items arrays.new.text.items) }
 {
     match input[place] {

@@ -1,6 +1,6 @@
-ghost use Rattle.std.specs.Prelude.{◌≡◌, ℕ, ◌+◌, ◌<◌, ◌≤◌, ◌⊎◌, List, ◌++◌, length, drop, IfSome, IfOk, Ok, Err, MatchResult, slice_index};
+ghost use Rattle.std.specs.Prelude.{◌≡◌, ℕ, ◌+◌, ◌<◌, ◌≤◌, ◌⊎◌, ◌≢◌, List, ◌++◌, length, drop, IfSome, IfOk, IfErr, Ok, Err, MatchResult, slice_index};
 ghost use Rattle.std.proofs.Math.Utf8.{encode};
-ghost use Rattle.flow.specs.Places.{NoRoom, Onward, Read, Wrote};
+ghost use Rattle.flow.specs.Places.{NoRoom, Onward, Read, Told, Wrote};
 ghost use Rattle.flow.specs.Scalars.{character as characterOf, code_unit, escape, escaped, hex_value, pair_of, piece, Inside};
 ghost use Rattle.flow.specs.Flow.{Key};
 ghost use Rattle.std.specs.List.{prefix_len};
@@ -39,10 +39,10 @@ pub(crate) fn read_integer(
     place: usize,
     arrays: &mut Arrays,
 ) -> Result<usize, Misread>
-    requires place_in_bounds { place < length input.now }
-    requires fact { (slice_index input.now place ≡ 45) ⊎ IsInRange 48 57 (slice_index input.now place) }
-    ensures range { Onward place input.now result }
-    ensures reads { IfOk result (λ end. Read Key input.now place end arrays.old.nodes.items arrays.new.nodes.items arrays.old.text.items arrays.new.text.items) }
+    requires { place < length input.now }
+    ensures range { Onward place (length input.now) result }
+    ensures told { (slice_index input.now place ≡ 45) ⊎ IsInRange 48 57 (slice_index input.now place) → IfErr result (λ m. Told input.now m) }
+    ensures reads { slice_index input.now place ≢ 43 → IfOk result (λ end. Read Key input.now place end arrays.old.nodes.items arrays.new.nodes.items arrays.old.text.items arrays.new.text.items) }
 {
     let end = behind_digits(input, place + 1);
     let bad = Misread {
@@ -182,7 +182,8 @@ fn read_piece(bytes: &[u8], arrays: &mut Arrays) -> Result<usize, Reason>
 /// Reads the bytes of a string, and gives the place behind its closing quote.
 fn read_bytes(input: &[u8], from: usize, arrays: &mut Arrays) -> Result<usize, Misread>
     requires { from ≤ length input.now }
-    ensures range { Onward from input.now result }
+    ensures range { Onward from (length input.now) result }
+    ensures told { IfErr result (λ m. Told input.now m) }
     ensures nodes { arrays.new.nodes ≡ arrays.old.nodes }
     ensures text { IfOk result (λ end. (ts : List ℕ) × (Inside (drop from input.now) (drop end input.now) ts) × (arrays.new.text.items ≡ arrays.old.text.items ++ ts)) }
 {
@@ -201,10 +202,10 @@ fn read_bytes(input: &[u8], from: usize, arrays: &mut Arrays) -> Result<usize, M
 
 /// Reads the string whose opening quote stands here, and gives the place behind it.
 pub(crate) fn read_string(input: &[u8], place: usize, arrays: &mut Arrays) -> Result<usize, Misread>
-    requires place_in_bounds { place < length input.now }
-    requires place_value { slice_index input.now place ≡ 34 }
-    ensures range { Onward place input.now result }
-    ensures reads { IfOk result (λ end. Read Key input.now place end arrays.old.nodes.items arrays.new.nodes.items arrays.old.text.items arrays.new.text.items) }
+    requires { place < length input.now }
+    ensures range { Onward place (length input.now) result }
+    ensures told { IfErr result (λ m. Told input.now m) }
+    ensures reads { slice_index input.now place ≡ 34 → IfOk result (λ end. Read Key input.now place end arrays.old.nodes.items arrays.new.nodes.items arrays.old.text.items arrays.new.text.items) }
 {
     let start = arrays.text.len();
     let end = read_bytes(input, place + 1, arrays)?;

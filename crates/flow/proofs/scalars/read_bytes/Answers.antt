@@ -1,24 +1,16 @@
 use Rattle.std.proofs.Common.{ℕ, List, [], ◌++◌, length, drop, vec_items, sym, ap, ◌∙◌, subst, append_assoc, arith}
-use Rattle.std.proofs.lemmas.List.{append-nil, drop_all, length-drop}
+use Rattle.std.proofs.lemmas.List.{append-nil, length-drop}
 use Rattle.flow.specs.Scalars.{Inside, piece}
 use Rattle.flow.proofs.Pieces.{inside_closed, inside_more, wrote_ok, wide_ok}
 use Rattle.flow.proofs.scalars.read_bytes.Goals as goal
 
-pub returns-then-input-place-eq34 : goal.returns-then-input-place-eq34
-returns-then-input-place-eq34 c =
-    let i = c.loop-place.invariant.3 in
-    record {
-      range = (omega arith, omega arith);
-      nodes = c.loop-place.invariant.2;
-      text = (
-        _,
-        i.2 [] _ (inside_closed c.args.input.now c.loop-place.place (omega arith) c.if-input-place-eq34.true),
-        i.1 ∙ ap (λ xs. vec_items c.args.arrays.now.text ++ xs) (sym (append-nil i.0)),
-      );
-    }
-
-pub read_piece-requires : goal.read_piece-requires
-read_piece-requires c = omega (arith, ap length c.behind.ensures, length-drop c.loop-place.place c.args.input.now)
+pub returns-then-input-place-eq34-clause-text : goal.returns-then-input-place-eq34-clause-text
+returns-then-input-place-eq34-clause-text c =
+    let i = c.loop-place.invariant.3 in (
+      _,
+      i.2 [] _ (inside_closed c.args.input.now c.loop-place.place (omega arith) c.if-input-place-eq34.true),
+      i.1 ∙ ap (λ xs. vec_items c.args.arrays.now.text ++ xs) (sym (append-nil i.0)),
+    )
 
 pub loop-place-preserved : goal.loop-place-preserved
 loop-place-preserved c =
@@ -36,11 +28,3 @@ loop-place-preserved c =
             (ap piece (sym c.behind.ensures) ∙ w.1) x)),
       ),
     )
-
-pub returns : goal.returns
-returns c =
-    record {
-      range = (omega arith, drop_all c.loop-place.place c.args.input.now (omega arith));
-      nodes = c.loop-place.invariant.2;
-      text = tt;
-    }
