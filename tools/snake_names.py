@@ -5,7 +5,7 @@ usage: tools/snake_names.py [--dry]     at the top, once, right after the kit's 
 
 A definition or lemma such as `newlineIn` or `length-on` becomes `newline_in`, `length_on`; a statement such as
 `More-marks-mark-more` becomes `MoreMarksMarkMore`. Names of src/, goals that the kit makes and strings keep their spelling.
-EXCEPT holds the names for which that would meet another name.
+EXCEPT holds the names for which that would meet another name. The library's AllByRecursion is used under its own name, and not as All.
 """
 
 import glob
@@ -21,6 +21,10 @@ DECLARED = re.compile(
 EXCEPT = {
     # a field of the code is called matches_newline
     "matchesNewline": "has_newline",
+    # functions and a field of the code have the plain names
+    "faultAtEnd": "final_fault",
+    "ifNamed": "capturing_if",
+    "lookaroundDepth": "depth_in_lookaround",
     # lemmas beside a definition of that name
     "blank-more": "blank_more_lem",
     "entries-size": "entries_size_lem",
@@ -39,8 +43,8 @@ EXCEPT = {
 }
 
 
-# declared by a `deriving .. as`, and the ghost members of a trait
-ALSO = {"value-discrete", "placeCount", "pairCount", "pairAt"}
+# declared by a `deriving .. as`, ghost members of a trait, bound names
+ALSO = {"value-discrete", "placeCount", "pairCount", "pairAt", "room-places", "room-pairs", "noNewlines", "characterOf"}
 
 
 def is_old(name):
@@ -66,7 +70,7 @@ def declared():
     names = set(ALSO)
     for path in antt_files():
         for line in open(path, encoding="utf-8"):
-            if re.match(r"\s*(use|--|open)\b", line):
+            if re.match(r"\s*(use|open)\s|\s*--", line):
                 continue
             m = DECLARED.match(line)
             if m and not re.match(r"goal\.", m["type"]) and is_old(m["name"]):
@@ -83,7 +87,20 @@ def files():
     return antt_files() + sorted(glob.glob("crates/*/src/**/*.rt", recursive=True))
 
 
+def library_names():
+    # All is another word of the library's
+    for path in files():
+        text = open(path, encoding="utf-8").read()
+        if "AllByRecursion as All" not in text:
+            continue
+        text = text.replace("AllByRecursion as All", "AllByRecursion")
+        text = re.sub(r"(?<![\w\-'])All(?![\w'\-])", "AllByRecursion", text)
+        if "--dry" not in sys.argv:
+            open(path, "w", encoding="utf-8").write(text)
+
+
 def main():
+    library_names()
     names = declared()
     table = {n: respelled(n) for n in names}
     seen = {}

@@ -6,7 +6,7 @@ use borrow.Author.Tests.{clash}
 use Rattle.tokens.specs.Tokens.{Token, escape, final, class, comment, plain, is_closed}
 use Rattle.engine.specs.declared.bracket.BracketFault.{BracketFault}
 use Rattle.engine.specs.declared.bracket.BracketFault.TheVariants.{Unopened, Unclosed, UnclosedClass, FinalBackslash}
-use Rattle.engine.specs.Brackets.{opens, closes, openings, closings, leaves, NeverOverclosed, Ends, Ruled, some_prefix, last_leaves, fault_from, fault_in, fault_at_end, depth_after}
+use Rattle.engine.specs.Brackets.{opens, closes, openings, closings, leaves, NeverOverclosed, Ends, Ruled, some_prefix, last_leaves, fault_from, fault_in, final_fault, depth_after}
 
 -- units that somewhere close more groups than are open, of `depth` before them
 abbrev pub falls : ℕ → List Token → Bool
@@ -132,7 +132,7 @@ depth_bound d d' u e = ⊎_elim
       go false true h = omega (arith, h)
       go false false h = omega (arith, h)
 
-pub fault_end : (d : ℕ) (fault : Option BracketFault) → fault_from d fault [] ≡ fault_at_end d fault
+pub fault_end : (d : ℕ) (fault : Option BracketFault) → fault_from d fault [] ≡ final_fault d fault
 fault_end d fault =
     cond-false (ltb (d + 0) 0) _ _ (le-ltb (d + 0) 0 (omega arith))
     ∙ ap (λ (k : ℕ). cond (ltb 0 k) (Some Unclosed) fault) (omega arith)

@@ -121,8 +121,8 @@ pub record BracketLaws : Type 0 where
   pub examples : BracketExamples
 
 -- the fault at the end of a text, where `depth` groups are open and the last unit left `fault`
-abbrev pub fault_at_end : ℕ → Option BracketFault → Option BracketFault
-fault_at_end depth fault = cond (nat_lt 0 depth) (Some Unclosed) fault
+abbrev pub final_fault : ℕ → Option BracketFault → Option BracketFault
+final_fault depth fault = cond (nat_lt 0 depth) (Some Unclosed) fault
 
 -- how many groups are open behind a unit; none if it closes one that nothing opened
 abbrev pub depth_after : ℕ → Token → Option ℕ

@@ -1,7 +1,7 @@
 ghost use Rattle.std.specs.Prelude.{◌≡◌, ◌+◌, ◌^◌, ◌<◌};
 ghost use Rattle.std.specs.Result.{result_err};
 ghost use Rattle.tokens.specs.Reads.{meant};
-ghost use Rattle.engine.specs.Brackets.{BracketLaws, bracket_number, depth_after, fault_at_end, fault_in, leaves};
+ghost use Rattle.engine.specs.Brackets.{BracketLaws, bracket_number, depth_after, final_fault, fault_in, leaves};
 ghost use Rattle.engine.specs.Units.{NextUnit, units};
 ghost use Rattle.std.proofs.Common.{rules};
 
@@ -82,7 +82,7 @@ fn fault_at_end(unit: Token) -> Option<BracketFault>
 
 /// The answer at the end of a text, where `depth` groups are open and the last unit left `ending`.
 fn answer_at_end(depth: usize, ending: Option<BracketFault>) -> Result<(), BracketFault>
-    ensures { result_err result ≡ fault_at_end depth ending }
+    ensures { result_err result ≡ final_fault depth ending }
 {
     if depth > 0 {
         return Err(BracketFault::Unclosed);

@@ -132,7 +132,7 @@ impl Reader {
         arrays: &mut Arrays,
     ) -> Result<usize, Misread>
         requires place_in_bounds { place < length input.now }
-        requires place_value { slice_index input.now place ≡ opening is_map }
+        requires at_opening { slice_index input.now place ≡ opening is_map }
         ensures range { Onward place (length input.now) result }
         ensures told { IfErr result (λ m. Told input.now m) }
         ensures sofar { IfOk result (λ end. Keeps input.now (Awaits Value input.now (reverse self.old.open.items)) place end arrays.old.nodes.items arrays.old.text.items self.new.wants (reverse self.new.open.items) arrays.new.nodes.items arrays.new.text.items) }
@@ -150,7 +150,7 @@ impl Reader {
         arrays: &mut Arrays,
     ) -> Result<usize, Misread>
         requires place_in_bounds { place < length input.now }
-        requires place_value { slice_index input.now place ≡ closing is_map }
+        requires at_closing { slice_index input.now place ≡ closing is_map }
         ensures range { Onward place (length input.now) result }
         ensures told { IfErr result (λ m. Told input.now m) }
         ensures refused { OnErr result (Other is_map self.old.open.items) }
@@ -319,7 +319,7 @@ fn read_scalar(input: &[u8], place: usize, arrays: &mut Arrays) -> Result<usize,
 /// Reads a value that holds no other.
 fn read_leaf(input: &[u8], place: usize, arrays: &mut Arrays) -> Result<usize, Misread>
     requires place_in_bounds { place < length input.now }
-    requires place_nonzero { (slice_index input.now place ≢ 91) × (slice_index input.now place ≢ 123) }
+    requires no_bracket { (slice_index input.now place ≢ 91) × (slice_index input.now place ≢ 123) }
     ensures range { Onward place (length input.now) result }
     ensures told { IfErr result (λ m. Told input.now m) }
     ensures reads { IfOk result (λ end. Read Value input.now place end arrays.old.nodes.items arrays.new.nodes.items arrays.old.text.items arrays.new.text.items) }

@@ -1,7 +1,7 @@
 ghost use Rattle.std.specs.Prelude.{◌≡◌, ℕ, ◌+◌, ◌<◌, ◌≤◌, ◌⊎◌, ◌≢◌, List, ◌++◌, length, drop, IfSome, IfOk, IfErr, Ok, Err, MatchResult, slice_index};
 ghost use Rattle.std.proofs.Math.Utf8.{encode};
 ghost use Rattle.flow.specs.Places.{NoRoom, Onward, Read, Told, Wrote};
-ghost use Rattle.flow.specs.Scalars.{character as characterOf, code_unit, escape, escaped, hex_value, pair_of, piece, Inside};
+ghost use Rattle.flow.specs.Scalars.{character as character_of, code_unit, escape, escaped, hex_value, pair_of, piece, Inside};
 ghost use Rattle.flow.specs.Flow.{Key};
 ghost use Rattle.std.specs.List.{prefix_len};
 ghost use Rattle.std.specs.Char.{is_ascii_digit};
@@ -122,7 +122,7 @@ fn pair(high: u32, low: u32) -> Option<char>
 
 /// The character at the front and the width of its escape: one `\uXXXX`, or two that are a surrogate pair.
 fn unicode_escape(bytes: &[u8]) -> Option<(char, usize)>
-    ensures is { result ≡ characterOf bytes.now }
+    ensures is { result ≡ character_of bytes.now }
     ensures range { IfSome result (λ p. (0 < p.1) × (p.1 ≤ length bytes.now)) }
 {
     let first = code_unit(bytes)?;

@@ -5,5 +5,5 @@ use Rattle.graph.specs.declared.marking.Refusal.TheVariants.{WrongLength, SmallW
 
 -- the length of the slice is tested first
 abbrev pub verdict : ℕ → ℕ → ℕ → ℕ → ℕ → Result (Unit {0}) Refusal
-verdict marks places pairs room-places room-pairs =
-    cond (marks == places) (cond (nat_le places room-places && nat_le pairs room-pairs) (Ok tt) (Err SmallWorkspace)) (Err WrongLength)
+verdict marks places pairs room_places room_pairs =
+    cond (marks == places) (cond (nat_le places room_places && nat_le pairs room_pairs) (Ok tt) (Err SmallWorkspace)) (Err WrongLength)

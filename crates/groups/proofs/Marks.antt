@@ -12,7 +12,7 @@ use Rattle.groups.specs.declared.captures.Mark.TheVariants.{Opens, Token as Toke
 use Rattle.tokens.specs.Cut.{past_front}
 use Rattle.tokens.specs.Reads.{meant, Taken}
 use Rattle.tokens.specs.Tokens.{escape, final, class, comment, plain, first, opens_group}
-use Rattle.groups.specs.Captures.{Mark, group, token, opening, width, group_of, spelled_mark, first_mark, marks, groups_after, in_lookaround, number_after, valid_number, valid_numbers, lookaround_depth, depth_after, found_number, listed, name_byte, name_ends, named}
+use Rattle.groups.specs.Captures.{Mark, group, token, opening, width, group_of, spelled_mark, first_mark, marks, groups_after, in_lookaround, number_after, valid_number, valid_numbers, depth_in_lookaround, depth_after, found_number, listed, name_byte, name_ends, named}
 use Rattle.tokens.specs.Cursor.{front}
 use Rattle.groups.specs.Marks.{TakenMark}
 use Rattle.tokens.proofs.Cut.{cut_nil, cut_cons}
@@ -71,9 +71,9 @@ pub no_marks : (bs : List ℕ) → bs ≡ [] → marks bs ≡ []
 no_marks bs e = ap marks e ∙ cut_nil first_mark spelled_mark
 
 -- A lookaround is open exactly where the depth is not 0.
-open-deep : (groups : List Bool) → in_lookaround groups ≡ not (eqb (lookaround_depth groups) 0)
-open-deep [] = refl
-open-deep (l ∷ groups) = go (lookaround_depth groups) (open-deep groups) l where
+open_deep : (groups : List Bool) → in_lookaround groups ≡ not (eqb (depth_in_lookaround groups) 0)
+open_deep [] = refl
+open_deep (l ∷ groups) = go (depth_in_lookaround groups) (open_deep groups) l where
   go : (d : ℕ) → in_lookaround groups ≡ not (eqb d 0) → (l : Bool) → (l || in_lookaround groups) ≡ not (eqb (cond (eqb d 0) (cond l 1 0) (d + 1)) 0)
   go d e l = shown (eqb d 0) refl l where
     shown : (z : Bool) → eqb d 0 ≡ z → (l : Bool) → (l || in_lookaround groups) ≡ not (eqb (cond z (cond l 1 0) (d + 1)) 0)
@@ -83,17 +83,17 @@ open-deep (l ∷ groups) = go (lookaround_depth groups) (open-deep groups) l whe
     shown false is false = e ∙ ap not is ∙ ap not (sym (ne_eqb (d + 1) 0 (λ h. omega arith)))
 
 -- the innermost group is left
-close_one : (groups : List Bool) → lookaround_depth (drop 1 groups) ≡ lookaround_depth groups - 1
+close_one : (groups : List Bool) → depth_in_lookaround (drop 1 groups) ≡ depth_in_lookaround groups - 1
 close_one [] = refl
-close_one (l ∷ groups) = go (lookaround_depth groups) l where
+close_one (l ∷ groups) = go (depth_in_lookaround groups) l where
   go : (d : ℕ) (l : Bool) → d ≡ cond (eqb d 0) (cond l 1 0) (d + 1) - 1
   go d true = grind (arith, nat_tests)
   go d false = grind (arith, nat_tests)
 
 -- The depth behind a mark is that of the groups that are open behind it.
-pub deep_after : (groups : List Bool) (m : Mark) → lookaround_depth (groups_after groups m) ≡ depth_after (lookaround_depth groups) m
+pub deep_after : (groups : List Bool) (m : Mark) → depth_in_lookaround (groups_after groups m) ≡ depth_after (depth_in_lookaround groups) m
 deep_after groups (group Capturing bs) = refl
-deep_after groups (group Lookaround bs) = go (lookaround_depth groups) where
+deep_after groups (group Lookaround bs) = go (depth_in_lookaround groups) where
   go : (d : ℕ) → cond (eqb d 0) 1 (d + 1) ≡ d + 1
   go d = grind (arith, nat_tests)
 deep_after groups (group Other bs) = refl
@@ -102,13 +102,13 @@ deep_after groups (token final) = refl
 deep_after groups (token (class bs)) = refl
 deep_after groups (token (comment bs)) = refl
 deep_after groups (token (plain b)) = go (eqb b 41) where
-  go : (z : Bool) → lookaround_depth (cond z (drop 1 groups) groups) ≡ cond z (lookaround_depth groups - 1) (lookaround_depth groups)
+  go : (z : Bool) → depth_in_lookaround (cond z (drop 1 groups) groups) ≡ cond z (depth_in_lookaround groups - 1) (depth_in_lookaround groups)
   go true = close_one groups
   go false = refl
 
 -- The number that is found is the one that is valid.
-pub found_valid : (groups : List Bool) (n : ℕ) (m : Mark) → listed (found_number (lookaround_depth groups) n m) ≡ valid_number groups n m
-found_valid groups n (group Capturing bs) = go (eqb (lookaround_depth groups) 0) (open-deep groups) where
+pub found_valid : (groups : List Bool) (n : ℕ) (m : Mark) → listed (found_number (depth_in_lookaround groups) n m) ≡ valid_number groups n m
+found_valid groups n (group Capturing bs) = go (eqb (depth_in_lookaround groups) 0) (open_deep groups) where
   go : (z : Bool) → in_lookaround groups ≡ not z → listed (cond z (Some (n + 1)) None) ≡ cond (in_lookaround groups) [] ((n + 1) ∷ [])
   go true e = sym (cond-false (in_lookaround groups) [] ((n + 1) ∷ []) e)
   go false e = sym (cond-true (in_lookaround groups) [] ((n + 1) ∷ []) e)
@@ -140,7 +140,7 @@ depth_bound d (token (comment bs)) = omega arith
 depth_bound d (token (plain b)) = grind (arith, nat_tests)
 
 -- what the mark that was read adds
-pub mark_step : (xs ys : List ℕ) (m : Mark) (groups : List Bool) (d n n' : ℕ) (found : Option ℕ) → marks xs ≡ m ∷ marks ys → d ≡ lookaround_depth groups →
+pub mark_step : (xs ys : List ℕ) (m : Mark) (groups : List Bool) (d n n' : ℕ) (found : Option ℕ) → marks xs ≡ m ∷ marks ys → d ≡ depth_in_lookaround groups →
     n' ≡ number_after n m → found ≡ found_number d n m →
     valid_numbers groups n (marks xs) ≡ listed found ++ valid_numbers (groups_after groups m) n' (marks ys)
 mark_step xs ys m groups d n n' found heads deep number is =

@@ -50,9 +50,9 @@ abbrev pub named : ℕ → List ℕ → Bool
 named close [] = false
 named close (b ∷ bs) = name_byte b && name_ends close bs
 
-abbrev pub if_named : Bool → Group
-if_named true = Capturing
-if_named false = Other
+abbrev pub capturing_if : Bool → Group
+capturing_if true = Capturing
+capturing_if false = Other
 
 abbrev pub group_of : Opening → List ℕ → Group
 group_of Last bs = Other
@@ -60,8 +60,8 @@ group_of Plain bs = Capturing
 group_of Asked bs = Other
 group_of Lookahead bs = Lookaround
 group_of Lookbehind bs = Lookaround
-group_of Angled bs = if_named (named 62 (drop 2 bs))
-group_of Quoted bs = if_named (named 39 (drop 2 bs))
+group_of Angled bs = capturing_if (named 62 (drop 2 bs))
+group_of Quoted bs = capturing_if (named 39 (drop 2 bs))
 group_of Python bs = Capturing
 group_of Unnamed bs = Other
 
@@ -123,9 +123,9 @@ abbrev pub consuming_captures : List ℕ → List ℕ
 consuming_captures bs = 0 ∷ valid_numbers [] 0 (marks bs)
 
 -- How many groups are open from the outermost lookaround inwards: all that the numbering has to keep of them.
-abbrev pub lookaround_depth : List Bool → ℕ
-lookaround_depth [] = 0
-lookaround_depth (l ∷ groups) = cond (lookaround_depth groups == 0) (cond l 1 0) (lookaround_depth groups + 1)
+abbrev pub depth_in_lookaround : List Bool → ℕ
+depth_in_lookaround [] = 0
+depth_in_lookaround (l ∷ groups) = cond (depth_in_lookaround groups == 0) (cond l 1 0) (depth_in_lookaround groups + 1)
 
 abbrev pub entered : ℕ → ℕ
 entered depth = cond (depth == 0) 0 (depth + 1)

@@ -1,7 +1,7 @@
 ghost use Rattle.std.specs.Prelude.{◌≡◌, ◌+◌, ◌^◌, ◌<◌, [], drop};
 ghost use Rattle.buffer.specs.Appends.{Appended};
 ghost use Rattle.groups.specs.Captures.{Mark as SpecMark};
-ghost use Rattle.groups.specs.Captures.{Rising, consuming_captures, depth_after, entered, found_number, group_of, if_named, listed, marks, named, name_byte, name_ends, number_after, opening, valid_numbers, width};
+ghost use Rattle.groups.specs.Captures.{Rising, consuming_captures, depth_after, entered, found_number, group_of, capturing_if, listed, marks, named, name_byte, name_ends, number_after, opening, valid_numbers, width};
 ghost use Rattle.groups.specs.Marks.{NextMark, StandsFor};
 
 use buffer::{Buffer, TooLong};
@@ -86,7 +86,7 @@ impl Opening {
 
 /// A group captures if a name and its closing byte stand two bytes behind its `(`.
 fn if_named(behind: &[u8], close: u8) -> Group
-    ensures { result ≡ if_named (named close (drop 2 behind.now)) }
+    ensures { result ≡ capturing_if (named close (drop 2 behind.now)) }
 {
     let mut parser = Parser::new(behind);
     parser.advance(2);

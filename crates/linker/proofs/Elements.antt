@@ -1,11 +1,11 @@
 -- Elements by their number, and optional values.
 use Rattle.std.proofs.Common.{◌≡◌, ℕ, zero, suc, List, [], ◌∷◌, Some, None, Option, sym, refl, ap, subst}
 use Rattle.grammar.specs.Places.{At, element_at}
-use Rattle.linker.specs.Equality.{IsSome, content}
+use Rattle.linker.specs.Equality.{Filled, content}
 use Rattle.linker.specs.Graphs.{later, joining}
 
 pub none_some : {A : Type 0} {x : A} → ¬ (None ≡ Some x)
-none_some e = subst IsSome (sym e) tt
+none_some e = subst Filled (sym e) tt
 
 pub some_same : {A : Type 0} (x y : A) → Some x ≡ Some y → x ≡ y
 some_same x y e = ap (content x) e

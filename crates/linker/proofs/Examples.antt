@@ -9,7 +9,7 @@ use Rattle.grammar.specs.Names.{Text, main, prototype}
 use Rattle.grammar.specs.Places.{At, In}
 use Rattle.grammar.specs.Grammars.{Scope, Reference, named, push, pop, Match, Pattern, include, match, Context, Grammar, ContextOf, references}
 use Rattle.grammar.proofs.Places.{at_same, at_below}
-use Rattle.linker.specs.Equality.{IsSome}
+use Rattle.linker.specs.Equality.{Filled}
 use Rattle.linker.specs.Links.{OfScope, OfName, Has, Found, Missing, plain_text, within, found, fallback, Leads, Nowhere}
 use Rattle.linker.specs.Linking.{same_scope, is_of_scope, is_of_name, Tells}
 use Rattle.linker.specs.Prototypes.{followed, FromPrototype, itself, onward, HasPrototype}
@@ -116,7 +116,7 @@ earlier_does_not (found e f) = f.last.no_later 1 late (omega arith) refl refl
 earlier_does_not (fallback e m h f) = false≢true e
 
 linking_nothing_is_wrong : ¬ Tells links_nothing
-linking_nothing_is_wrong t = subst IsSome (sym ((t (early ∷ []) 0 x_of_shared 0 text_x).1 earlier_has_x)) tt
+linking_nothing_is_wrong t = subst Filled (sym ((t (early ∷ []) 0 x_of_shared 0 text_x).1 earlier_has_x)) tt
 
 trying_earlier_is_wrong : ¬ Tells tries_earlier
 trying_earlier_is_wrong t = last_lacks_x 0 text_x ((t both 0 x_of_shared 0 text_x).0 refl)

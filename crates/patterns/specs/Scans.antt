@@ -11,8 +11,8 @@ use Rattle.patterns.specs.declared.scan.Verdict.TheVariants.{Fine, TooLong, NotU
 abbrev pub Over : List ℕ → Type 0
 Over bs = (65536 < length (with_properties bs)) ⊎ ((65536 < length (rewritten true bs)) ⊎ ((65536 < length (rewritten false bs)) ⊎ (65536 < length (consuming_captures bs))))
 
-abbrev pub Scanned : List ℕ → Verdict → (newlines noNewlines captures : List ℕ) → Type 0
-Scanned bs (Fine backrefs) newlines noNewlines captures =
-    IsUtf8 bs × (newlines ≡ rewritten true bs) × (noNewlines ≡ rewritten false bs) × (captures ≡ consuming_captures bs) × (backrefs ≡ has_backref bs)
-Scanned bs TooLong newlines noNewlines captures = IsUtf8 bs × Over bs
-Scanned bs NotUtf8 newlines noNewlines captures = IsUtf8 bs → ⊥
+abbrev pub Scanned : List ℕ → Verdict → (newlines no_newlines captures : List ℕ) → Type 0
+Scanned bs (Fine backrefs) newlines no_newlines captures =
+    IsUtf8 bs × (newlines ≡ rewritten true bs) × (no_newlines ≡ rewritten false bs) × (captures ≡ consuming_captures bs) × (backrefs ≡ has_backref bs)
+Scanned bs TooLong newlines no_newlines captures = IsUtf8 bs × Over bs
+Scanned bs NotUtf8 newlines no_newlines captures = IsUtf8 bs → ⊥

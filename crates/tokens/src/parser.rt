@@ -140,8 +140,8 @@ impl<'a> Parser<'a> {
 
     /// Reads the byte that stands here, which begins no other token.
     fn plain(&mut self, byte: u8) -> Token<'a>
-        requires stands { front self.old.rest.now ≡ Some byte }
-        requires begins_no_other { (byte ≢ 92) × ((byte ≢ 91) × (byte ≡ 40 → opens_comment self.old.rest.now ≡ false)) }
+        requires at_front { front self.old.rest.now ≡ Some byte }
+        requires begins_no_other { (byte ≢ 92) × (byte ≢ 91) × (byte ≡ 40 → opens_comment self.old.rest.now ≡ false) }
         ensures { Taken result self.old.rest.now self.new.rest.now }
     {
         self.next();

@@ -44,7 +44,7 @@ fn is_equal(nodes: &[RawNode], text: &[u8], key: usize, other: usize) -> bool
 /// No later key equals this one.
 fn is_new(nodes: &[RawNode], text: &[u8], key: usize, later: &[u32]) -> bool
     requires key_in_bounds { key < length nodes.now }
-    requires all { AllByRecursion (λ k. k < length nodes.now) later.now }
+    requires later_in_bounds { AllByRecursion (λ k. k < length nodes.now) later.now }
     requires right { Each nodes.now (Right nodes.now text.now) }
     ensures { Decides result (AllByRecursion (λ l. Equal nodes.now text.now key l → ⊥) later.now) }
 {
@@ -58,7 +58,7 @@ fn is_new(nodes: &[RawNode], text: &[u8], key: usize, later: &[u32]) -> bool
 
 /// No two of the keys are equal: each is compared with each.
 fn is_apart(nodes: &[RawNode], text: &[u8], keys: &[u32]) -> bool
-    requires all { AllByRecursion (λ k. k < length nodes.now) keys.now }
+    requires keys_in_bounds { AllByRecursion (λ k. k < length nodes.now) keys.now }
     requires right { Each nodes.now (Right nodes.now text.now) }
     ensures { Decides result (Apart (Equal nodes.now text.now) keys.now) }
 {

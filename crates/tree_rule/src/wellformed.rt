@@ -179,7 +179,7 @@ fn check_keys(nodes: &[RawNode], text: &[u8], work: &mut Workspace) -> Result<()
     requires sized { Sized nodes.now text.now }
     requires right { Each nodes.now (Right nodes.now text.now) }
     requires holds { Each nodes.now (Holds nodes.now) }
-    requires nests { Nests 64 nodes.now 0 }
+    requires nested { Nests 64 nodes.now 0 }
     ensures { MatchResult result (λ _. Each nodes.now (Distinct nodes.now text.now)) (Refuses nodes.now text.now) }
 {
     for i in 0..nodes.len() {

@@ -1,5 +1,5 @@
 use Rattle.std.proofs.Common.{◌≡◌, ◌+◌, ◌≤◌, Bool, List, [], length, vec_items}
-use Rattle.groups.specs.Captures.{lookaround_depth, valid_numbers, marks}
+use Rattle.groups.specs.Captures.{depth_in_lookaround, valid_numbers, marks}
 use Rattle.buffer.proofs.Writes.{Writing}
 use Rattle.groups.proofs.captures.write_group_numbers.Given as goal
 
@@ -7,7 +7,7 @@ use Rattle.groups.proofs.captures.write_group_numbers.Given as goal
 abbrev pub invariant-loop-mark : goal.invariant-loop-mark
 invariant-loop-mark l = (l.numbering.number + length l.parser.rest.now ≤ length l.regex)
     × (l.numbering.lookaround_depth + length l.parser.rest.now ≤ length l.regex)
-    × ((groups : List Bool) × (l.numbering.lookaround_depth ≡ lookaround_depth groups)
+    × ((groups : List Bool) × (l.numbering.lookaround_depth ≡ depth_in_lookaround groups)
     × Writing (vec_items l.initial.out.items) (valid_numbers [] 0 (marks l.regex)) (vec_items l.out.items) (valid_numbers groups l.numbering.number (marks l.parser.rest.now)))
 
 abbrev pub decreases-loop-mark : goal.decreases-loop-mark

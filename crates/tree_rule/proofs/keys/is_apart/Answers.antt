@@ -10,8 +10,8 @@ pub is_new-requires : goal.is_new-requires
 is_new-requires c =
     let n = length c.args.nodes.now in
     let e = take_rest c.args.keys.now (c.loop-i.i + 1) in record {
-      key_in_bounds = All-get_or (λ k. k < n) c.args.keys.now c.loop-i.i 0 c.loop-i-test.true c.requires.all;
-      all = rw e (All-drop (λ k. k < n) (c.loop-i.i + 1) c.args.keys.now c.requires.all);
+      key_in_bounds = All-get_or (λ k. k < n) c.args.keys.now c.loop-i.i 0 c.loop-i-test.true c.requires.keys_in_bounds;
+      later_in_bounds = rw e (All-drop (λ k. k < n) (c.loop-i.i + 1) c.args.keys.now c.requires.keys_in_bounds);
       right = c.requires.right;
     }
 

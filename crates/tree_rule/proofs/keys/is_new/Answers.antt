@@ -8,7 +8,7 @@ use Rattle.tree_rule.proofs.keys.is_new.Goals as goal
 pub is_equal-requires : goal.is_equal-requires
 is_equal-requires c = record {
   key_in_bounds = c.requires.key_in_bounds;
-  other_in_bounds = All-get_or (λ k. k < length c.args.nodes.now) c.args.later.now c.loop-other.other-index 0 c.loop-other-test.true c.requires.all;
+  other_in_bounds = All-get_or (λ k. k < length c.args.nodes.now) c.args.later.now c.loop-other.other-index 0 c.loop-other-test.true c.requires.later_in_bounds;
   right = c.requires.right;
 }
 
