@@ -42,6 +42,7 @@ pub(crate) fn read_integer(
     requires { place < length input.now }
     ensures range { Onward place (length input.now) result }
     ensures told { (slice_index input.now place ≡ 45) ⊎ IsInRange 48 57 (slice_index input.now place) → IfErr result (λ m. Told input.now m) }
+    // `parse` takes a plus sign too, which the flow form does not know
     ensures reads { slice_index input.now place ≢ 43 → IfOk result (λ end. Read Key input.now place end arrays.old.nodes.items arrays.new.nodes.items arrays.old.text.items arrays.new.text.items) }
 {
     let end = behind_digits(input, place + 1);
