@@ -1,5 +1,5 @@
 pub mod Chaining
+pub mod Following
 pub mod Lawful
 pub mod Lining
 pub mod Spreads
-pub mod Walks

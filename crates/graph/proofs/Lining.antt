@@ -1,11 +1,16 @@
 -- Laws of the queue of marked places: one place more in the list of marks, one place more that is marked.
-use Rattle.std.proofs.Common.{◌≡◌, ℕ, ◌+◌, ◌<◌, Bool, true, false, cond, not, ◌⊎◌, List, [], ◌∷◌, ◌++◌, length, get_or, take, set, sym, refl, ap, ◌∙◌, subst, inl, inr, ⊎_elim, arith}
+use Rattle.std.proofs.Common.{◌≡◌, ℕ, ◌+◌, ◌<◌, Bool, true, false, cond, not, ◌⊎◌, List, [], ◌∷◌, ◌++◌, length, get_or, take, set, count_by, sym, refl, ap, ◌∙◌, subst, inl, inr, ⊎_elim, arith}
 use borrow.Author.Tests.{clash}
-use Rattle.std.proofs.lemmas.List.{length-set, length_push, length-take-le, take_more, get_or_past, get_or_push, get_or_append_left, get_or-set_same, get_or-set_other}
-use Rattle.std.proofs.lemmas.List.Sums.{sum_by_push, sum_by-set, get_or-le-sum_by}
+use Rattle.std.proofs.lemmas.List.{length_push, length-take-le, take_more, get_or_past, get_or_push, get_or_append_left, get_or-set_same, get_or-set_other, set-get_or}
+use Rattle.std.proofs.Common.{length-append}
+use Rattle.std.proofs.lemmas.List.Sums.{sum_by_push, sum_by-set}
 use Rattle.std.proofs.lemmas.Bool.{cases_eq, cases_lt}
+use Rattle.std.proofs.Common.{Some, None, Option}
+use Rattle.std.specs.Option.{IfSome, option_to_list}
+use Rattle.std.proofs.Math.Logic.{∥∥₁_elim}
+use Rattle.std.proofs.Math.Bool.{Bool-set}
 use Rattle.graph.specs.Reached.{Marked}
-use Rattle.graph.specs.Spreading.{Queued, Lined}
+use Rattle.graph.specs.Spreading.{AllMarked, Lined, Queued}
 
 pub marked_inside : (marks : List Bool) (k : ℕ) → Marked marks k → k < length marks
 marked_inside marks k h = ⊎_elim (λ l. l) (λ l. absurd (clash (sym (get_or_past marks k false l) ∙ h))) (cases_lt k (length marks))
@@ -28,19 +33,27 @@ marked_unset marks k j h = ⊎_elim
     (λ ne. inr (sym (get_or-set_other marks k j true false ne) ∙ h))
     (cases_eq j k)
 
-queued_more : (queue : List ℕ) (x k : ℕ) → Queued queue k → Queued (queue ++ x ∷ []) k
+pub queued_more : (queue : List ℕ) (x k : ℕ) → Queued queue k → Queued (queue ++ x ∷ []) k
 queued_more queue x k h = record {
   place = h.place;
   within = simp length_push (omega (arith, h.within));
   is = get_or_append_left queue (x ∷ []) 0 h.place h.within ∙ h.is;
 }
 
-queued_last : (queue : List ℕ) (x : ℕ) → Queued (queue ++ x ∷ []) x
+pub queued_last : (queue : List ℕ) (x : ℕ) → Queued (queue ++ x ∷ []) x
 queued_last queue x = record {
   place = length queue;
   within = simp length_push (omega arith);
   is = get_or_push queue x 0 (length queue) refl;
 }
+
+pub queued_unpush : (queue : List ℕ) (x k : ℕ) → Queued (queue ++ x ∷ []) k → (x ≡ k) ⊎ Queued queue k
+queued_unpush queue x k h = ⊎_elim
+    (λ l. inr (record { place = h.place; within = l; is = sym (get_or_append_left queue (x ∷ []) 0 h.place l) ∙ h.is }))
+    (λ l.
+    let e : length queue ≡ h.place = omega (arith, length_push queue x, h.within) in
+    inl (sym (get_or_push queue x 0 h.place e) ∙ h.is))
+    (cases_lt h.place (length queue))
 
 -- what holds of each place in the queue and of one more
 each_push : (P : ℕ → Type 0) (queue : List ℕ) (x : ℕ) → ((q : ℕ) → q < length queue → P (get_or queue q 0)) → P x →
@@ -96,30 +109,36 @@ lined_past_unmarked marks queue l = record {
       (marked_unpush marks false k h);
 }
 
--- an unmarked place is marked and goes to the end of the queue
-pub lined_set : (marks : List Bool) (queue : List ℕ) (k : ℕ) → k < length marks → get_or marks k false ≡ false → Lined marks queue →
-    Lined (set marks k true) (queue ++ k ∷ [])
-lined_set marks queue k h un l = record {
-  counted =
-      let e = sum_by-set (λ (x : Bool). cond (not x) 1 0) marks k true false h in
-      let f : ◌≡◌ {A = ℕ} (cond (not (get_or marks k false)) 1 0) 1 = ap (λ (x : Bool). let n : ℕ = cond (not x) 1 0 in n) un in
-      omega (arith, e, f, length_push queue k, length-set marks k true, l.counted);
-  queued = each_push (Marked (set marks k true)) queue k
-      (λ q i. marked_set marks k (get_or queue q 0) (l.queued q i))
-      (marked_set_same marks k h);
-  waits = λ j i. ⊎_elim
-      (λ e. subst (Queued (queue ++ k ∷ [])) (sym e) (queued_last queue k))
-      (λ old. queued_more queue k j (l.waits j old))
-      (marked_unset marks k j i);
-}
+-- an unmarked place is marked, and joins the list
+pub all_marked_push : (marks : List Bool) (queue queue' : List ℕ) (k : ℕ) (b : Bool) → b ≡ true → queue' ≡ queue ++ k ∷ [] → k < length marks →
+    AllMarked marks queue → AllMarked (set marks k b) queue'
+all_marked_push marks queue queue' k b is e h all = rw (is, e) (each_push (Marked (set marks k true)) queue k
+    (λ q i. marked_set marks k (get_or queue q 0) (all q i))
+    (marked_set_same marks k h))
 
--- where a place is not marked, the queue is shorter than the list of marks
-pub lined_room : (marks : List Bool) (queue : List ℕ) (k : ℕ) → k < length marks → get_or marks k false ≡ false → Lined marks queue →
-    length queue < length marks
-lined_room marks queue k h un l =
-    let e = get_or-le-sum_by (λ (x : Bool). cond (not x) 1 0) marks k false h in
-    let f : ◌≡◌ {A = ℕ} (cond (not (get_or marks k false)) 1 0) 1 = ap (λ (x : Bool). let n : ℕ = cond (not x) 1 0 in n) un in
-    omega (arith, e, f, l.counted)
+pub unmarked_set : (marks : List Bool) (k : ℕ) (b : Bool) → b ≡ true → k < length marks → false ≡ get_or marks k false →
+    count_by not (set marks k b) + 1 ≡ count_by not marks
+unmarked_set marks k b is h un =
+    let e = sum_by-set (λ (x : Bool). cond (not x) 1 0) marks k true false h in
+    let f : ◌≡◌ {A = ℕ} (cond (not (get_or marks k false)) 1 0) 1 = ap (λ (x : Bool). let n : ℕ = cond (not x) 1 0 in n) (sym un) in
+    rw is (omega (arith, e, f))
+
+-- a marked place is marked again
+pub marked_again : (marks : List Bool) (k : ℕ) (b : Bool) → b ≡ true → true ≡ get_or marks k false → set marks k b ≡ marks
+marked_again marks k b is old = ap (λ (x : Bool). set marks k x) (is ∙ old) ∙ set-get_or marks k false
+
+-- what stands at the end of the list, and what stays when it is taken
+pub all_marked_front : (marks : List Bool) (queue last : List ℕ) → AllMarked marks (queue ++ last) → AllMarked marks queue
+all_marked_front marks queue last all q h = subst (Marked marks) (get_or_append_left queue last 0 q h)
+    (all q (let l : q < length (queue ++ last) = omega (arith, h, length-append queue last) in l))
+
+pub all_marked_last : (marks : List Bool) (queue : List ℕ) (k : ℕ) → AllMarked marks (queue ++ k ∷ []) → Marked marks k
+all_marked_last marks queue k all = subst (Marked marks) (get_or_push queue k 0 (length queue) refl)
+    (all (length queue) (let l : length queue < length (queue ++ k ∷ []) = omega (arith, length_push queue k) in l))
+
+pub popped_is_marked : (marks : List Bool) (queue : List ℕ) (o : Option ℕ) → ∥ AllMarked marks (queue ++ option_to_list o) ∥₁ → IfSome o (λ k. Marked marks k)
+popped_is_marked marks queue None all = tt
+popped_is_marked marks queue (Some k) all = ∥∥₁_elim all (Bool-set _ _) (all_marked_last marks queue k)
 
 -- the marks up to a place, and those up to the next
 pub lined_more_marked : (marks : List Bool) (i : ℕ) (queue : List ℕ) {queue' : List ℕ} → i < length marks → get_or marks i false ≡ true →
