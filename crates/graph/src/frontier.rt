@@ -14,6 +14,8 @@ pub(crate) struct Frontier<'a> {
 }
 
 impl<'a> Frontier<'a> {
+    ghost use Rattle.graph.specs.Lent.{SameLent};
+
     /// All marked places wait.
     pub(crate) fn new(marks: &'a mut [bool], waiting: &'a mut Vec<usize>) -> Self
         requires { length marks.old ≤ vec_capacity waiting.old }
@@ -37,9 +39,7 @@ impl<'a> Frontier<'a> {
         requires { place < length self.old.marks.now }
         ensures marks { self.new.marks.now ≡ slice_set self.old.marks.now place true }
         ensures waiting { self.new.waiting.now.items ≡ (if get_or self.old.marks.now place false then self.old.waiting.now.items else self.old.waiting.now.items ++ place ∷ []) }
-        ensures room { vec_capacity self.new.waiting.now ≡ vec_capacity self.old.waiting.now }
-        ensures same_marks { self.new.marks.ghost_name ≡ self.old.marks.ghost_name }
-        ensures same_waiting { self.new.waiting.ghost_name ≡ self.old.waiting.ghost_name }
+        ensures lent { SameLent self.old self.new }
     {
         let marks = &mut *self.marks;
         if !mem::replace(&mut marks[place], true) {
@@ -52,9 +52,7 @@ impl<'a> Frontier<'a> {
         ensures waiting { MatchOption result ((self.old.waiting.now.items ≡ []) × (self.new.waiting.now.items ≡ [])) (λ place. self.old.waiting.now.items ≡ self.new.waiting.now.items ++ place ∷ []) }
         ensures marked { IfSome result (λ place. Marked self.new.marks.now place) }
         ensures marks { self.new.marks.now ≡ self.old.marks.now }
-        ensures room { vec_capacity self.new.waiting.now ≡ vec_capacity self.old.waiting.now }
-        ensures same_marks { self.new.marks.ghost_name ≡ self.old.marks.ghost_name }
-        ensures same_waiting { self.new.waiting.ghost_name ≡ self.old.waiting.ghost_name }
+        ensures lent { SameLent self.old self.new }
     {
         self.waiting.pop()
     }

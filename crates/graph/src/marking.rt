@@ -1,5 +1,6 @@
 ghost use Rattle.std.specs.Prelude.{◌≡◌, false, length, is_ok, Ok, vec_capacity};
 ghost use Rattle.graph.specs.Laws.{Laws};
+ghost use Rattle.graph.specs.Lent.{SameLent};
 ghost use Rattle.graph.specs.Reached.{Marked, Marking};
 ghost use Rattle.graph.specs.Spreading.{Grown, Lined, Spread};
 ghost use Rattle.graph.specs.Verdict.{verdict};
@@ -16,9 +17,7 @@ fn spread<G: Graph>(pairs: &PairsByPlace<G>, place: usize, front: &mut Frontier)
     requires long { length front.old.marks.now ≡ G.place_count pairs.now.graph.now }
     ensures grows { Grown (G.place_count pairs.now.graph.now) (G.pair_count pairs.now.graph.now) (G.pair_at pairs.now.graph.now) front.old.marks.now front.old.waiting.now.items front.new.marks.now front.new.waiting.now.items }
     ensures leads { Spread (G.place_count pairs.now.graph.now) (G.pair_count pairs.now.graph.now) (G.pair_at pairs.now.graph.now) front.new.marks.now place }
-    ensures room { vec_capacity front.new.waiting.now ≡ vec_capacity front.old.waiting.now }
-    ensures same_marks { front.new.marks.ghost_name ≡ front.old.marks.ghost_name }
-    ensures same_waiting { front.new.waiting.ghost_name ≡ front.old.waiting.ghost_name }
+    ensures lent { SameLent front.old front.new }
 {
     for to in pairs.targets(place) {
         front.mark(to);
@@ -30,9 +29,7 @@ fn spread_all<G: Graph>(pairs: &PairsByPlace<G>, front: &mut Frontier)
     requires long { length front.old.marks.now ≡ G.place_count pairs.now.graph.now }
     requires lined { Lined front.old.marks.now front.old.waiting.now.items }
     ensures marking { Marking (G.place_count pairs.now.graph.now) (G.pair_count pairs.now.graph.now) (G.pair_at pairs.now.graph.now) front.old.marks.now front.new.marks.now }
-    ensures room { vec_capacity front.new.waiting.now ≡ vec_capacity front.old.waiting.now }
-    ensures same_marks { front.new.marks.ghost_name ≡ front.old.marks.ghost_name }
-    ensures same_waiting { front.new.waiting.ghost_name ≡ front.old.waiting.ghost_name }
+    ensures lent { SameLent front.old front.new }
 {
     while let Some(place) = front.next() {
         spread(pairs, place, front);

@@ -1,5 +1,6 @@
-use Rattle.std.proofs.Common.{◌∙◌, rules}
+use Rattle.std.proofs.Common.{rules}
 use Rattle.graph.proofs.Following.{followed_inside, followed_more, followed_none}
+use Rattle.graph.proofs.Lending.{lent_on, lent_same}
 use Rattle.graph.proofs.marking.spread.Goals as goal
 
 pub loop-to-init : goal.loop-to-init
@@ -7,9 +8,7 @@ loop-to-init g c = record {
   can = search rules;
   ends = search rules;
   followed = followed_none _ _ _ c.args.place _ _ _ (rw c.into_iter-to-iterator.ensures.into_iter_gives c.targets-to-items.ensures);
-  room = search rules;
-  same_marks = search rules;
-  same_waiting = search rules;
+  lent = lent_same _;
 }
 
 pub mark-requires : goal.mark-requires
@@ -21,7 +20,5 @@ loop-to-preserved g c = record {
   ends = search rules;
   followed = followed_more _ _ _ c.args.place _ _ _ _ _ c.in-Some.to _ _ _ c.loop-to.invariant.followed c.in-Some.ensures.steps c.requires.marked c.requires.long
       c.mark.ensures.marks c.mark.ensures.waiting;
-  room = c.mark.ensures.room ∙ c.loop-to.invariant.room;
-  same_marks = c.mark.ensures.same_marks ∙ c.loop-to.invariant.same_marks;
-  same_waiting = c.mark.ensures.same_waiting ∙ c.loop-to.invariant.same_waiting;
+  lent = lent_on _ _ _ c.loop-to.invariant.lent c.mark.ensures.lent;
 }

@@ -1,4 +1,5 @@
 use Rattle.std.proofs.Common.{◌≡◌, vec_items, vec_capacity}
+use Rattle.graph.specs.Lent.{SameLent}
 use Rattle.graph.specs.Chains.{chain_targets}
 use Rattle.graph.proofs.Following.{Followed}
 use Rattle.graph.proofs.marking.spread.Given as goal
@@ -12,7 +13,5 @@ invariant-loop-to g l =
       followed : Followed (g.G.Graph.place_count l.pairs.graph.now) (g.G.Graph.pair_count l.pairs.graph.now) (g.G.Graph.pair_at l.pairs.graph.now) l.fn.place
           l.initial.front.marks.now (vec_items l.initial.front.waiting.now) l.front.marks.now (vec_items l.front.waiting.now)
           (chain_targets (g.G.Graph.place_count it.pairs.now.graph.now) (g.G.Graph.pair_at it.pairs.now.graph.now) it.next);
-      room : vec_capacity l.front.waiting.now ≡ vec_capacity l.initial.front.waiting.now;
-      same_marks : l.front.marks.ghost_name ≡ l.initial.front.marks.ghost_name;
-      same_waiting : l.front.waiting.ghost_name ≡ l.initial.front.waiting.ghost_name;
+      lent : SameLent l.initial.front l.front;
     }
