@@ -4,6 +4,7 @@ ghost use Rattle.graph.specs.Chains.{Chained, in_range};
 use crate::graph::Graph;
 
 /// The pairs from one place, chained from the last to the first.
+// By number and not by `Box`: the room is had beforehand, so that marking needs no memory.
 #[derive(Drop)]
 pub(crate) struct Chains {
     /// for each place the last pair from it

@@ -1,15 +1,17 @@
-ghost use Rattle.std.specs.Prelude.{◌≡◌, false, length, is_ok, Ok, vec_capacity};
+ghost use Rattle.std.specs.Prelude.{◌≡◌, false, length, is_ok, Ok, Some, vec_capacity};
 ghost use Rattle.graph.specs.Laws.{Laws};
 ghost use Rattle.graph.specs.Lent.{SameLent};
 ghost use Rattle.graph.specs.Reached.{Marked, Marking};
 ghost use Rattle.graph.specs.Spreading.{Grown, Lined, Spread};
-ghost use Rattle.graph.specs.Verdict.{verdict};
+ghost use Rattle.graph.specs.Verdict.{refusal_text, verdict};
 
 use crate::by_place::PairsByPlace;
 use crate::frontier::Frontier;
 use crate::graph::Graph;
 use crate::laws::laws_of_marking;
 use crate::workspace::Workspace;
+use std::error::Error;
+use std::fmt;
 
 /// Marks the places that the pairs from a marked place lead to.
 fn spread<G: Graph>(pairs: &PairsByPlace<G>, place: usize, front: &mut Frontier)
@@ -45,6 +47,19 @@ pub enum Refusal {
     SmallWorkspace,
 }
 
+impl fmt::Display for Refusal {
+    ghost output = { λ refusal. Some (refusal_text refusal) };
+
+    fn fmt<W: fmt::Write>(&self, f: &mut fmt::Formatter<W>) -> fmt::Result {
+        f.write_str(match self {
+            Refusal::WrongLength => "there is not one mark for each place",
+            Refusal::SmallWorkspace => "the graph is too large for the workspace",
+        })
+    }
+}
+
+impl Error for Refusal {}
+
 /// Marks the places that pairs lead to, one after another, from the places that are marked.
 pub fn mark<G: Graph>(graph: &G, marks: &mut [bool], work: &mut Workspace) -> Result<(), Refusal>
     ensures verdict { result ≡ verdict (length marks.old) (G.place_count graph.now) (G.pair_count graph.now) work.old.places work.old.pairs }
@@ -68,7 +83,7 @@ pub fn mark<G: Graph>(graph: &G, marks: &mut [bool], work: &mut Workspace) -> Re
         graph,
         chains: &work.chains,
     };
-    let mut front = Frontier::new(marks, &mut work.queue);
+    let mut front = Frontier::new(marks, &mut work.waiting);
     spread_all(&pairs, &mut front);
     Ok(())
 }

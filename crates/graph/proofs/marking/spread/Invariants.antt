@@ -1,4 +1,4 @@
-use Rattle.std.proofs.Common.{◌≡◌, vec_items, vec_capacity}
+use Rattle.std.proofs.Common.{vec_items}
 use Rattle.graph.specs.Lent.{SameLent}
 use Rattle.graph.specs.Chains.{chain_targets}
 use Rattle.graph.proofs.Following.{Followed}

@@ -1,4 +1,4 @@
-use Rattle.std.proofs.Common.{◌≡◌, ◌+◌, not, count_by, vec_items, vec_len, vec_capacity}
+use Rattle.std.proofs.Common.{◌+◌, not, count_by, vec_items, vec_len}
 use Rattle.graph.specs.Lent.{SameLent}
 use Rattle.graph.specs.Spreading.{Spreading}
 use Rattle.graph.proofs.marking.spread_all.Given as goal
