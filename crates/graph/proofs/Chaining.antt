@@ -13,15 +13,6 @@ last_here n E j i h = last_on n E j i ∙ cond-true (goes_from (in_range n (E j)
 pub last_before : (n : ℕ) (E : ℕ → Option (ℕ × ℕ)) (j i : ℕ) → goes_from (in_range n (E j)) i ≡ false → last_from n E (j + 1) i ≡ last_from n E j i
 last_before n E j i h = last_on n E j i ∙ cond-false (goes_from (in_range n (E j)) i) (Some j) (last_from n E j i) h
 
--- no pair is chained yet
-pub chained_none : (n : ℕ) (E : ℕ → Option (ℕ × ℕ)) → Chained n E 0 (replicate n None) []
-chained_none n E = record {
-  heads_long = length-replicate n None;
-  nexts_long = refl;
-  head = λ i h. get_or-replicate n i None None h;
-  next = λ k i h _. absurd (omega arith);
-}
-
 -- the pairs that were chained before, and the one that is added
 nexts_more : (n : ℕ) (E : ℕ → Option (ℕ × ℕ)) (j : ℕ) (heads nexts : List (Option ℕ)) (x : Option ℕ) → Chained n E j heads nexts →
     ((i : ℕ) → goes_from (in_range n (E j)) i ≡ true → x ≡ last_from n E j i) →
@@ -83,16 +74,6 @@ pub in_range_from : (n : ℕ) (o : Option (ℕ × ℕ)) (a b : ℕ) → o ≡ So
 in_range_from n o a b e h k =
     ap (in_range n) e ∙ cond-true (ltb a n && ltb b n) (Some (a, b)) None (and_from (ltb a n) (ltb b n) (lt-ltb a n h) (lt-ltb b n k))
 
-pub same_target : (o : Option (ℕ × ℕ)) (i k a b : ℕ) → o ≡ Some (i, k) → o ≡ Some (a, b) → k ≡ b
-same_target o i k a b e f = let q : ◌≡◌ {A = ℕ × ℕ} (i, k) (a, b) = cc in ap (λ (p : ℕ × ℕ). p.1) q
-
-pub none_not_some : (o : Option (ℕ × ℕ)) (p : ℕ × ℕ) → o ≡ None → o ≡ Some p → ⊥
-none_not_some o p e f = let z : ◌≡◌ {A = ℕ} 0 1 = cc in absurd (omega arith)
-
--- a pair from i: the pair that counts
-pub goes_from_is : (o : Option (ℕ × ℕ)) (a b i : ℕ) → o ≡ Some (a, b) → goes_from o i ≡ true → a ≡ i
-goes_from_is o a b i e h = eqb-true a i (ap (λ (x : Option (ℕ × ℕ)). goes_from x i) (sym e) ∙ h)
-
 pub goes_from_lem : (o : Option (ℕ × ℕ)) (i b : ℕ) → o ≡ Some (i, b) → goes_from o i ≡ true
 goes_from_lem o i b e = ap (λ (x : Option (ℕ × ℕ)). goes_from x i) e ∙ eq-eqb i i refl
 
@@ -116,25 +97,6 @@ last_is n E (suc j) i l e = go (goes_from (in_range n (E j)) i) refl e (last_is 
             (λ h. let s : k ≡ j = omega arith in ap (λ (x : ℕ). goes_from (in_range n (E x)) i) s ∙ t)
             (cases_lt k j),
       )
-
-pub last_is_none : (n : ℕ) (E : ℕ → Option (ℕ × ℕ)) (j i : ℕ) → last_from n E j i ≡ None → (k : ℕ) → k < j → goes_from (in_range n (E k)) i ≡ false
-last_is_none n E zero i e k h = absurd (omega arith)
-last_is_none n E (suc j) i e k h = go (goes_from (in_range n (E j)) i) refl e (last_is_none n E j i) where
-  go : (t : Bool) → goes_from (in_range n (E j)) i ≡ t → cond t (Some j) (last_from n E j i) ≡ None →
-      (last_from n E j i ≡ None → (k : ℕ) → k < j → goes_from (in_range n (E k)) i ≡ false) → goes_from (in_range n (E k)) i ≡ false
-  go true t e ih = let z : ◌≡◌ {A = ℕ} 0 1 = cc in absurd (omega arith)
-  go false t e ih = ⊎_elim
-      (λ l. ih e k l)
-      (λ l. let s : k ≡ j = omega arith in ap (λ (x : ℕ). goes_from (in_range n (E x)) i) s ∙ t)
-      (cases_lt k j)
-
-pub in_range_of : (l n : ℕ) (o : Option (ℕ × ℕ)) → l ≡ n → in_range n o ≡ in_range l o
-in_range_of l n o e = ap (λ (x : ℕ). in_range x o) (sym e)
-
--- a pair goes from one place only
-pub goes_from_only : (o : Option (ℕ × ℕ)) (i k : ℕ) → goes_from o i ≡ true → goes_from o k ≡ true → i ≡ k
-goes_from_only None i k a b = let z : ◌≡◌ {A = ℕ} 0 1 = cc in absurd (omega arith)
-goes_from_only (Some p) i k a b = sym (eqb-true p.0 i a) ∙ eqb-true p.0 k b
 
 -- what is read of the chains in the code
 pub head_read : (n : ℕ) (E : ℕ → Option (ℕ × ℕ)) (j : ℕ) (heads nexts : List (Option ℕ)) (i : ℕ) (x : Option ℕ) → Chained n E j heads nexts →

@@ -180,10 +180,3 @@ followed_more n m E i marks₀ queue₀ marks queue left k left' marks' queue' f
           (queued_split k left' j (subst (λ (xs : List ℕ). Queued xs j) is q)))
           (f.leads j s);
     }
-
-pub followed_all : (n m : ℕ) (E : ℕ → Option (ℕ × ℕ)) (i : ℕ) (marks₀ : List Bool) (queue₀ : List ℕ) (marks : List Bool) (queue left : List ℕ) →
-    Followed n m E i marks₀ queue₀ marks queue left → left ≡ [] → Spread n m E marks i
-followed_all n m E i marks₀ queue₀ marks queue left f none k s = ⊎_elim
-    (λ marked. marked)
-    (λ q. let r : Queued [] k = subst (λ (xs : List ℕ). Queued xs k) none q in absurd (omega (arith, r.within)))
-    (f.leads k s)

@@ -78,13 +78,6 @@ marked_unpush marks b k h = ⊎_elim
     inl (sym e, sym (get_or_push marks b false k e) ∙ h))
     (cases_lt k (length marks))
 
-pub lined_none : Lined [] []
-lined_none = record {
-  counted = refl;
-  queued = λ q h. absurd (omega arith);
-  waits = λ k h. absurd (clash h);
-}
-
 pub lined_past_marked : (marks : List Bool) (queue : List ℕ) → Lined marks queue → Lined (marks ++ true ∷ []) (queue ++ length marks ∷ [])
 lined_past_marked marks queue l = record {
   counted = let e = sum_by_push (λ (x : Bool). cond (not x) 1 0) marks true in
