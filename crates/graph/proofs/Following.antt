@@ -6,7 +6,9 @@ use Rattle.std.proofs.Props.{props}
 use Rattle.std.proofs.lemmas.Bool.{cond-true, cases_eq, eqb-true, eq-eqb, ltb-true, lt-ltb, and_parts, and_from}
 use Rattle.graph.specs.Chains.{in_range, goes_from, last_from, Chained, origin, target, targets, chain_targets, counts}
 use Rattle.graph.specs.Reached.{Marked, Step}
-use Rattle.graph.specs.Spreading.{Queued, Grown, Spread}
+use Rattle.std.specs.List.{Contains}
+use Rattle.std.proofs.lemmas.List.Elements.{Contains-append_right, Contains-get_or}
+use Rattle.graph.specs.Spreading.{Grown, Spread}
 use Rattle.graph.proofs.Lining.{marked_set}
 use Rattle.graph.proofs.Spreads.{grown_same, grown_more}
 use Rattle.graph.proofs.Chaining.{goes_from_lem, head_read, in_range_from, in_range_is, last_is, next_read}
@@ -98,85 +100,78 @@ step_read n E m heads nexts o j a b x c h is asked read =
       last_counts n m E j i x (omega arith) e,
     )
 
-queued_first : (x : ℕ) (xs : List ℕ) → Queued (x ∷ xs) x
-queued_first x xs = record { place = 0; within = omega arith; is = refl }
-
-queued_behind : (x : ℕ) (xs : List ℕ) (k : ℕ) → Queued xs k → Queued (x ∷ xs) k
-queued_behind x xs k q = record { place = suc q.place; within = omega (arith, q.within); is = q.is }
-
-queued_split : (x : ℕ) (xs : List ℕ) (k : ℕ) → Queued (x ∷ xs) k → (x ≡ k) ⊎ Queued xs k
-queued_split x xs k q = go q.place q.within q.is where
-  go : (p : ℕ) → p < length (x ∷ xs) → get_or (x ∷ xs) p 0 ≡ k → (x ≡ k) ⊎ Queued xs k
-  go zero l e = inl e
-  go (suc p) l e = inr (record { place = p; within = omega (arith, l); is = e })
+-- a place that stands in a list: at its head, or behind it
+contains_split : (x : ℕ) (xs : List ℕ) (k : ℕ) → Contains (x ∷ xs) k → (x ≡ k) ⊎ Contains xs k
+contains_split x xs k (zero, l, e) = inl e
+contains_split x xs k (suc p, l, e) = inr (p, omega (arith, l), e)
 
 -- the pairs from a place go to its targets, and no others do
-targets_steps : (n m : ℕ) (E : ℕ → Option (ℕ × ℕ)) (j i k : ℕ) → j ≤ m → Queued (targets n E j i) k → Step n m E i k
-targets_steps n m E zero i k h q = absurd (omega (arith, q.within))
+targets_steps : (n m : ℕ) (E : ℕ → Option (ℕ × ℕ)) (j i k : ℕ) → j ≤ m → Contains (targets n E j i) k → Step n m E i k
+targets_steps n m E zero i k h q = absurd (omega (arith, q.1))
 targets_steps n m E (suc j) i k h q = go (goes_from (in_range n (E j)) i) refl q (targets_steps n m E j i k (omega arith)) where
-  go : (t : Bool) → goes_from (in_range n (E j)) i ≡ t → Queued (cond t (target (in_range n (E j)) ∷ targets n E j i) (targets n E j i)) k →
-      (Queued (targets n E j i) k → Step n m E i k) → Step n m E i k
+  go : (t : Bool) → goes_from (in_range n (E j)) i ≡ t → Contains (cond t (target (in_range n (E j)) ∷ targets n E j i) (targets n E j i)) k →
+      (Contains (targets n E j i) k → Step n m E i k) → Step n m E i k
   go true t q ih = ⊎_elim
       (λ here.
       let is = in_range_is n (E j) i (target (in_range n (E j))) (goes_from_target (in_range n (E j)) i t) in
       subst (Step n m E i) here (record { number = j; counted = omega arith; joins = is.2; from_inside = is.0; to_inside = is.1 }))
       ih
-      (queued_split (target (in_range n (E j))) (targets n E j i) k q)
+      (contains_split (target (in_range n (E j))) (targets n E j i) k q)
   go false t q ih = ih q
 
-steps_targets : (n m : ℕ) (E : ℕ → Option (ℕ × ℕ)) (j i k : ℕ) → (s : Step n m E i k) → s.number < j → Queued (targets n E j i) k
+steps_targets : (n m : ℕ) (E : ℕ → Option (ℕ × ℕ)) (j i k : ℕ) → (s : Step n m E i k) → s.number < j → Contains (targets n E j i) k
 steps_targets n m E zero i k s h = absurd (omega arith)
 steps_targets n m E (suc j) i k s h = ⊎_elim
     (λ (same : s.number ≡ j).
     let is : in_range n (E j) ≡ Some (i, k) = ap (λ (x : ℕ). in_range n (E x)) (sym same) ∙ in_range_from n (E s.number) i k s.joins s.from_inside s.to_inside in
-    rw (is, eq-eqb i i refl) (queued_first k (targets n E j i)))
+    rw (is, eq-eqb i i refl) (Contains-get_or (k ∷ targets n E j i) 0 0 (omega arith)))
     (λ other. go (goes_from (in_range n (E j)) i) (steps_targets n m E j i k s (omega arith)))
     (cases_eq s.number j) where
-      go : (t : Bool) → Queued (targets n E j i) k → Queued (cond t (target (in_range n (E j)) ∷ targets n E j i) (targets n E j i)) k
-      go true q = queued_behind (target (in_range n (E j))) (targets n E j i) k q
+      go : (t : Bool) → Contains (targets n E j i) k → Contains (cond t (target (in_range n (E j)) ∷ targets n E j i) (targets n E j i)) k
+      go true q = Contains-append_right (target (in_range n (E j)) ∷ []) (targets n E j i) k q
       go false q = q
 
 -- some of the pairs from i have been followed, and the targets of the others are left
-pub record Followed (n m : ℕ) (E : ℕ → Option (ℕ × ℕ)) (i : ℕ) (marks₀ : List Bool) (queue₀ : List ℕ) (marks : List Bool) (queue left : List ℕ) : Type 0 where
-  pub grows : Grown n m E marks₀ queue₀ marks queue
-  pub steps : (k : ℕ) → Queued left k → Step n m E i k
-  pub leads : (k : ℕ) → Step n m E i k → Marked marks k ⊎ Queued left k
+pub record Followed (n m : ℕ) (E : ℕ → Option (ℕ × ℕ)) (i : ℕ) (marks₀ : List Bool) (waiting₀ : List ℕ) (marks : List Bool) (waiting left : List ℕ) : Type 0 where
+  pub grows : Grown n m E marks₀ waiting₀ marks waiting
+  pub steps : (k : ℕ) → Contains left k → Step n m E i k
+  pub leads : (k : ℕ) → Step n m E i k → Marked marks k ⊎ Contains left k
 
-pub followed_none : (n m : ℕ) (E : ℕ → Option (ℕ × ℕ)) (i : ℕ) (marks : List Bool) (queue left : List ℕ) → left ≡ targets n E m i →
-    Followed n m E i marks queue marks queue left
-followed_none n m E i marks queue left e = record {
-  grows = grown_same n m E marks queue;
-  steps = λ k q. targets_steps n m E m i k (omega arith) (subst (λ (xs : List ℕ). Queued xs k) e q);
-  leads = λ k s. inr (subst (λ (xs : List ℕ). Queued xs k) (sym e) (steps_targets n m E m i k s s.counted));
+pub followed_none : (n m : ℕ) (E : ℕ → Option (ℕ × ℕ)) (i : ℕ) (marks : List Bool) (waiting left : List ℕ) → left ≡ targets n E m i →
+    Followed n m E i marks waiting marks waiting left
+followed_none n m E i marks waiting left e = record {
+  grows = grown_same n m E marks waiting;
+  steps = λ k q. targets_steps n m E m i k (omega arith) (subst (λ (xs : List ℕ). Contains xs k) e q);
+  leads = λ k s. inr (subst (λ (xs : List ℕ). Contains xs k) (sym e) (steps_targets n m E m i k s s.counted));
 }
 
-followed_step : (n m : ℕ) (E : ℕ → Option (ℕ × ℕ)) (i : ℕ) (marks₀ : List Bool) (queue₀ : List ℕ) (marks : List Bool) (queue left : List ℕ) (k : ℕ) (left' : List ℕ) →
-    Followed n m E i marks₀ queue₀ marks queue left → left ≡ k ∷ left' → Step n m E i k
-followed_step n m E i marks₀ queue₀ marks queue left k left' f e = f.steps k (subst (λ (xs : List ℕ). Queued xs k) (sym e) (queued_first k left'))
+followed_step : (n m : ℕ) (E : ℕ → Option (ℕ × ℕ)) (i : ℕ) (marks₀ : List Bool) (waiting₀ : List ℕ) (marks : List Bool) (waiting left : List ℕ) (k : ℕ) (left' : List ℕ) →
+    Followed n m E i marks₀ waiting₀ marks waiting left → left ≡ k ∷ left' → Step n m E i k
+followed_step n m E i marks₀ waiting₀ marks waiting left k left' f e = f.steps k (subst (λ (xs : List ℕ). Contains xs k) (sym e) (Contains-get_or (k ∷ left') 0 0 (omega arith)))
 
 -- the next of them is there
-pub followed_inside : (n m : ℕ) (E : ℕ → Option (ℕ × ℕ)) (i : ℕ) (marks₀ : List Bool) (queue₀ : List ℕ) (marks : List Bool) (queue left : List ℕ) (k : ℕ) (left' : List ℕ) →
-    length marks₀ ≡ n → Followed n m E i marks₀ queue₀ marks queue left → left ≡ k ∷ left' → k < length marks
-followed_inside n m E i marks₀ queue₀ marks queue left k left' long f e =
-    let step = followed_step n m E i marks₀ queue₀ marks queue left k left' f e in
+pub followed_inside : (n m : ℕ) (E : ℕ → Option (ℕ × ℕ)) (i : ℕ) (marks₀ : List Bool) (waiting₀ : List ℕ) (marks : List Bool) (waiting left : List ℕ) (k : ℕ) (left' : List ℕ) →
+    length marks₀ ≡ n → Followed n m E i marks₀ waiting₀ marks waiting left → left ≡ k ∷ left' → k < length marks
+followed_inside n m E i marks₀ waiting₀ marks waiting left k left' long f e =
+    let step = followed_step n m E i marks₀ waiting₀ marks waiting left k left' f e in
     omega (arith, step.to_inside, f.grows.long)
 
-pub followed_more : (n m : ℕ) (E : ℕ → Option (ℕ × ℕ)) (i : ℕ) (marks₀ : List Bool) (queue₀ : List ℕ) (marks : List Bool) (queue left : List ℕ) (k : ℕ) (left' : List ℕ) (marks' : List Bool) (queue' : List ℕ) →
-    Followed n m E i marks₀ queue₀ marks queue left → left ≡ k ∷ left' → Marked marks₀ i → length marks₀ ≡ n →
-    marks' ≡ set marks k true → queue' ≡ cond (get_or marks k false) queue (queue ++ k ∷ []) →
-    Followed n m E i marks₀ queue₀ marks' queue' left'
-followed_more n m E i marks₀ queue₀ marks queue left k left' marks' queue' f is from long e x =
-    let inside = followed_inside n m E i marks₀ queue₀ marks queue left k left' long f is in
-    let step = followed_step n m E i marks₀ queue₀ marks queue left k left' f is in
-    let grown = grown_more n m E marks₀ queue₀ marks queue i k marks' queue' f.grows step from inside e x in
+pub followed_more : (n m : ℕ) (E : ℕ → Option (ℕ × ℕ)) (i : ℕ) (marks₀ : List Bool) (waiting₀ : List ℕ) (marks : List Bool) (waiting left : List ℕ) (k : ℕ) (left' : List ℕ) (marks' : List Bool) (waiting' : List ℕ) →
+    Followed n m E i marks₀ waiting₀ marks waiting left → left ≡ k ∷ left' → Marked marks₀ i → length marks₀ ≡ n →
+    marks' ≡ set marks k true → waiting' ≡ cond (get_or marks k false) waiting (waiting ++ k ∷ []) →
+    Followed n m E i marks₀ waiting₀ marks' waiting' left'
+followed_more n m E i marks₀ waiting₀ marks waiting left k left' marks' waiting' f is from long e x =
+    let inside = followed_inside n m E i marks₀ waiting₀ marks waiting left k left' long f is in
+    let step = followed_step n m E i marks₀ waiting₀ marks waiting left k left' f is in
+    let grown = grown_more n m E marks₀ waiting₀ marks waiting i k marks' waiting' f.grows step from inside e x in
     record {
       grows = grown.0;
-      steps = λ j q. f.steps j (subst (λ (xs : List ℕ). Queued xs j) (sym is) (queued_behind k left' j q));
+      steps = λ j q. f.steps j (subst (λ (xs : List ℕ). Contains xs j) (sym is) (Contains-append_right (k ∷ []) left' j q));
       leads = λ j s. ⊎_elim
           (λ marked. inl (subst (λ (b : List Bool). Marked b j) (sym e) (marked_set marks k j marked)))
           (λ q. ⊎_elim
           (λ here. inl (subst (Marked marks') here grown.1))
           (λ there. inr there)
-          (queued_split k left' j (subst (λ (xs : List ℕ). Queued xs j) is q)))
+          (contains_split k left' j (subst (λ (xs : List ℕ). Contains xs j) is q)))
           (f.leads j s);
     }

@@ -1,16 +1,13 @@
--- Laws of the queue of marked places: one place more in the list of marks, one place more that is marked.
+-- Laws of marked places that wait in a list: one place more in the list of marks, one place more that is marked.
 use Rattle.std.proofs.Common.{◌≡◌, ℕ, ◌+◌, ◌<◌, Bool, true, false, cond, not, ◌⊎◌, List, [], ◌∷◌, ◌++◌, length, get_or, take, set, count_by, sym, refl, ap, ◌∙◌, subst, inl, inr, ⊎_elim, arith}
 use borrow.Author.Tests.{clash}
 use Rattle.std.proofs.lemmas.List.{length_push, length-take-le, take_more, get_or_past, get_or_push, get_or_append_left, get_or-set_same, get_or-set_other, set-get_or}
-use Rattle.std.proofs.Common.{length-append}
+use Rattle.std.specs.List.{All, Contains}
+use Rattle.std.proofs.lemmas.List.Elements.{All-push, All-weaker, Contains-append_left, Contains-push}
 use Rattle.std.proofs.lemmas.List.Sums.{sum_by_push, sum_by-set}
 use Rattle.std.proofs.lemmas.Bool.{cases_eq, cases_lt}
-use Rattle.std.proofs.Common.{Some, None, Option}
-use Rattle.std.specs.Option.{IfSome, option_to_list}
-use Rattle.std.proofs.Math.Logic.{∥∥₁_elim}
-use Rattle.std.proofs.Math.Bool.{Bool-set}
 use Rattle.graph.specs.Reached.{Marked}
-use Rattle.graph.specs.Spreading.{AllMarked, Lined, Queued}
+use Rattle.graph.specs.Spreading.{Lined}
 
 pub marked_inside : (marks : List Bool) (k : ℕ) → Marked marks k → k < length marks
 marked_inside marks k h = ⊎_elim (λ l. l) (λ l. absurd (clash (sym (get_or_past marks k false l) ∙ h))) (cases_lt k (length marks))
@@ -33,38 +30,6 @@ marked_unset marks k j h = ⊎_elim
     (λ ne. inr (sym (get_or-set_other marks k j true false ne) ∙ h))
     (cases_eq j k)
 
-pub queued_more : (queue : List ℕ) (x k : ℕ) → Queued queue k → Queued (queue ++ x ∷ []) k
-queued_more queue x k h = record {
-  place = h.place;
-  within = simp length_push (omega (arith, h.within));
-  is = get_or_append_left queue (x ∷ []) 0 h.place h.within ∙ h.is;
-}
-
-pub queued_last : (queue : List ℕ) (x : ℕ) → Queued (queue ++ x ∷ []) x
-queued_last queue x = record {
-  place = length queue;
-  within = simp length_push (omega arith);
-  is = get_or_push queue x 0 (length queue) refl;
-}
-
-pub queued_unpush : (queue : List ℕ) (x k : ℕ) → Queued (queue ++ x ∷ []) k → (x ≡ k) ⊎ Queued queue k
-queued_unpush queue x k h = ⊎_elim
-    (λ l. inr (record { place = h.place; within = l; is = sym (get_or_append_left queue (x ∷ []) 0 h.place l) ∙ h.is }))
-    (λ l.
-    let e : length queue ≡ h.place = omega (arith, length_push queue x, h.within) in
-    inl (sym (get_or_push queue x 0 h.place e) ∙ h.is))
-    (cases_lt h.place (length queue))
-
--- what holds of each place in the queue and of one more
-each_push : (P : ℕ → Type 0) (queue : List ℕ) (x : ℕ) → ((q : ℕ) → q < length queue → P (get_or queue q 0)) → P x →
-    (q : ℕ) → q < length (queue ++ x ∷ []) → P (get_or (queue ++ x ∷ []) q 0)
-each_push P queue x all here q h = ⊎_elim
-    (λ l. subst P (sym (get_or_append_left queue (x ∷ []) 0 q l)) (all q l))
-    (λ l.
-    let e : length queue ≡ q = omega (arith, length_push queue x) in
-    subst P (sym (get_or_push queue x 0 q e)) here)
-    (cases_lt q (length queue))
-
 -- marks behind the end of a list of marks
 marked_push : (marks : List Bool) (b : Bool) (k : ℕ) → Marked marks k → Marked (marks ++ b ∷ []) k
 marked_push marks b k h = get_or_append_left marks (b ∷ []) false k (marked_inside marks k h) ∙ h
@@ -78,24 +43,24 @@ marked_unpush marks b k h = ⊎_elim
     inl (sym e, sym (get_or_push marks b false k e) ∙ h))
     (cases_lt k (length marks))
 
-pub lined_past_marked : (marks : List Bool) (queue : List ℕ) → Lined marks queue → Lined (marks ++ true ∷ []) (queue ++ length marks ∷ [])
-lined_past_marked marks queue l = record {
+pub lined_past_marked : (marks : List Bool) (waiting : List ℕ) → Lined marks waiting → Lined (marks ++ true ∷ []) (waiting ++ length marks ∷ [])
+lined_past_marked marks waiting l = record {
   counted = let e = sum_by_push (λ (x : Bool). cond (not x) 1 0) marks true in
-      omega (arith, e, length_push queue (length marks), length_push marks true, l.counted);
-  queued = each_push (Marked (marks ++ true ∷ [])) queue (length marks)
-      (λ q h. marked_push marks true (get_or queue q 0) (l.queued q h))
+      omega (arith, e, length_push waiting (length marks), length_push marks true, l.counted);
+  marked = All-push (Marked (marks ++ true ∷ [])) waiting (length marks)
+      (All-weaker (Marked marks) (Marked (marks ++ true ∷ [])) (marked_push marks true) waiting l.marked)
       (get_or_push marks true false (length marks) refl);
   waits = λ k h. ⊎_elim
-      (λ e. subst (Queued (queue ++ length marks ∷ [])) (sym e.0) (queued_last queue (length marks)))
-      (λ old. queued_more queue (length marks) k (l.waits k old))
+      (λ e. subst (Contains (waiting ++ length marks ∷ [])) (sym e.0) (Contains-push waiting (length marks)))
+      (λ old. Contains-append_left waiting (length marks ∷ []) k (l.waits k old))
       (marked_unpush marks true k h);
 }
 
-pub lined_past_unmarked : (marks : List Bool) (queue : List ℕ) → Lined marks queue → Lined (marks ++ false ∷ []) queue
-lined_past_unmarked marks queue l = record {
+pub lined_past_unmarked : (marks : List Bool) (waiting : List ℕ) → Lined marks waiting → Lined (marks ++ false ∷ []) waiting
+lined_past_unmarked marks waiting l = record {
   counted = let e = sum_by_push (λ (x : Bool). cond (not x) 1 0) marks false in
       omega (arith, e, length_push marks false, l.counted);
-  queued = λ q h. marked_push marks false (get_or queue q 0) (l.queued q h);
+  marked = All-weaker (Marked marks) (Marked (marks ++ false ∷ [])) (marked_push marks false) waiting l.marked;
   waits = λ k h. ⊎_elim
       (λ e. absurd (clash e.1))
       (λ old. l.waits k old)
@@ -103,10 +68,10 @@ lined_past_unmarked marks queue l = record {
 }
 
 -- an unmarked place is marked, and joins the list
-pub all_marked_push : (marks : List Bool) (queue queue' : List ℕ) (k : ℕ) (b : Bool) → b ≡ true → queue' ≡ queue ++ k ∷ [] → k < length marks →
-    AllMarked marks queue → AllMarked (set marks k b) queue'
-all_marked_push marks queue queue' k b is e h all = rw (is, e) (each_push (Marked (set marks k true)) queue k
-    (λ q i. marked_set marks k (get_or queue q 0) (all q i))
+pub all_marked_push : (marks : List Bool) (waiting waiting' : List ℕ) (k : ℕ) (b : Bool) → b ≡ true → waiting' ≡ waiting ++ k ∷ [] → k < length marks →
+    All (Marked marks) waiting → All (Marked (set marks k b)) waiting'
+all_marked_push marks waiting waiting' k b is e h all = rw (is, e) (All-push (Marked (set marks k true)) waiting k
+    (All-weaker (Marked marks) (Marked (set marks k true)) (marked_set marks k) waiting all)
     (marked_set_same marks k h))
 
 pub unmarked_set : (marks : List Bool) (k : ℕ) (b : Bool) → b ≡ true → k < length marks → false ≡ get_or marks k false →
@@ -120,30 +85,17 @@ unmarked_set marks k b is h un =
 pub marked_again : (marks : List Bool) (k : ℕ) (b : Bool) → b ≡ true → true ≡ get_or marks k false → set marks k b ≡ marks
 marked_again marks k b is old = ap (λ (x : Bool). set marks k x) (is ∙ old) ∙ set-get_or marks k false
 
--- what stands at the end of the list, and what stays when it is taken
-pub all_marked_front : (marks : List Bool) (queue last : List ℕ) → AllMarked marks (queue ++ last) → AllMarked marks queue
-all_marked_front marks queue last all q h = subst (Marked marks) (get_or_append_left queue last 0 q h)
-    (all q (let l : q < length (queue ++ last) = omega (arith, h, length-append queue last) in l))
-
-pub all_marked_last : (marks : List Bool) (queue : List ℕ) (k : ℕ) → AllMarked marks (queue ++ k ∷ []) → Marked marks k
-all_marked_last marks queue k all = subst (Marked marks) (get_or_push queue k 0 (length queue) refl)
-    (all (length queue) (let l : length queue < length (queue ++ k ∷ []) = omega (arith, length_push queue k) in l))
-
-pub popped_is_marked : (marks : List Bool) (queue : List ℕ) (o : Option ℕ) → ∥ AllMarked marks (queue ++ option_to_list o) ∥₁ → IfSome o (λ k. Marked marks k)
-popped_is_marked marks queue None all = tt
-popped_is_marked marks queue (Some k) all = ∥∥₁_elim all (Bool-set _ _) (all_marked_last marks queue k)
-
 -- the marks up to a place, and those up to the next
-pub lined_more_marked : (marks : List Bool) (i : ℕ) (queue : List ℕ) {queue' : List ℕ} → i < length marks → get_or marks i false ≡ true →
-    queue' ≡ queue ++ i ∷ [] → Lined (take i marks) queue → Lined (take (i + 1) marks) queue'
-lined_more_marked marks i queue {queue' = queue'} h yes' e l =
+pub lined_more_marked : (marks : List Bool) (i : ℕ) (waiting : List ℕ) {waiting' : List ℕ} → i < length marks → get_or marks i false ≡ true →
+    waiting' ≡ waiting ++ i ∷ [] → Lined (take i marks) waiting → Lined (take (i + 1) marks) waiting'
+lined_more_marked marks i waiting {waiting' = waiting'} h yes' e l =
     let t : take (i + 1) marks ≡ take i marks ++ true ∷ [] = take_more marks i false h ∙ ap (λ (b : Bool). take i marks ++ b ∷ []) yes' in
     let u : length (take i marks) ≡ i = length-take-le i marks (omega arith) in
-    let v : queue' ≡ queue ++ length (take i marks) ∷ [] = e ∙ ap (λ (x : ℕ). queue ++ x ∷ []) (sym u) in
-    rw (t, v) (lined_past_marked (take i marks) queue l)
+    let v : waiting' ≡ waiting ++ length (take i marks) ∷ [] = e ∙ ap (λ (x : ℕ). waiting ++ x ∷ []) (sym u) in
+    rw (t, v) (lined_past_marked (take i marks) waiting l)
 
-pub lined_more_unmarked : (marks : List Bool) (i : ℕ) (queue : List ℕ) {queue' : List ℕ} → i < length marks → get_or marks i false ≡ false →
-    queue' ≡ queue → Lined (take i marks) queue → Lined (take (i + 1) marks) queue'
-lined_more_unmarked marks i queue h un e l =
+pub lined_more_unmarked : (marks : List Bool) (i : ℕ) (waiting : List ℕ) {waiting' : List ℕ} → i < length marks → get_or marks i false ≡ false →
+    waiting' ≡ waiting → Lined (take i marks) waiting → Lined (take (i + 1) marks) waiting'
+lined_more_unmarked marks i waiting h un e l =
     let t : take (i + 1) marks ≡ take i marks ++ false ∷ [] = take_more marks i false h ∙ ap (λ (b : Bool). take i marks ++ b ∷ []) un in
-    rw (t, e) (lined_past_unmarked (take i marks) queue l)
+    rw (t, e) (lined_past_unmarked (take i marks) waiting l)

@@ -1,6 +1,7 @@
-ghost use Rattle.std.specs.Prelude.{◌≡◌, ℕ, ◌+◌, ◌<◌, ◌≤◌, true, false, not, [], ◌∷◌, ◌++◌, length, count_by, get_or, if◌then◌else◌, IfSome, MatchOption, vec_len, vec_capacity, slice_set};
+ghost use Rattle.std.specs.Prelude.{◌≡◌, ℕ, ◌+◌, ◌<◌, ◌≤◌, true, false, not, [], ◌∷◌, ◌++◌, length, count_by, All, get_or, if◌then◌else◌, IfSome, MatchOption, vec_len, vec_capacity, slice_set};
 ghost use Rattle.graph.specs.Reached.{Marked};
-ghost use Rattle.graph.specs.Spreading.{AllMarked, Lined};
+ghost use Rattle.graph.specs.Spreading.{Lined};
+ghost use Rattle.std.proofs.Props.{props};
 
 use std::mem;
 
@@ -10,7 +11,7 @@ pub(crate) struct Frontier<'a> {
     pub(crate) marks: &'a mut [bool],
     pub(crate) waiting: &'a mut Vec<usize>,
     ghost room: { vec_len waiting.now + count_by not marks.now ≤ vec_capacity waiting.now },
-    ghost marked: { ∥ AllMarked marks.now waiting.now.items ∥₁ },
+    ghost marked: { All (Marked marks.now) waiting.now.items } by { Prim.hlevel props },
 }
 
 impl<'a> Frontier<'a> {
