@@ -1,26 +1,14 @@
 -- Laws of the pairs that are found by following the chain of one place.
 use Rattle.std.proofs.Common.{◌≡◌, ℕ, zero, suc, ◌<◌, ◌≤◌, Bool, true, false, cond, ◌&&◌, ltb, is_some, ◌⊎◌, List, [], ◌∷◌, ◌++◌, length, get_or, set, Some, None, Option, sym, refl, ap, ◌∙◌, subst, inl, inr, ⊎_elim, arith}
-use Rattle.std.proofs.Math.Logic.{∥∥₁_elim}
-use Rattle.std.proofs.Math.Nat.{ℕ_set}
-use Rattle.std.proofs.Props.{props}
 use Rattle.std.proofs.lemmas.Bool.{cond-true, cases_eq, eqb-true, eq-eqb, ltb-true, lt-ltb, and_parts, and_from}
-use Rattle.graph.specs.Chains.{in_range, goes_from, last_from, Chained, origin, target, targets, chain_targets, counts}
-use Rattle.graph.specs.Reached.{Marked, Step}
 use Rattle.std.specs.List.{Contains}
 use Rattle.std.proofs.lemmas.List.Elements.{Contains-append_right, Contains-get_or}
-use Rattle.graph.specs.Spreading.{Grown, Spread}
+use Rattle.graph.specs.Chains.{in_range, goes_from, last_from, Chained, origin, target, targets, chain_targets, counts}
+use Rattle.graph.specs.Reached.{Marked, Step}
+use Rattle.graph.specs.Spreading.{Grown}
 use Rattle.graph.proofs.Lining.{marked_set}
 use Rattle.graph.proofs.Spreads.{grown_same, grown_more}
 use Rattle.graph.proofs.Chaining.{goes_from_lem, head_read, in_range_from, in_range_is, last_is, next_read}
-
--- the fact that pairs are chained, as a type keeps it
-pub chained_of : (n : ℕ) (E : ℕ → Option (ℕ × ℕ)) (j : ℕ) (heads nexts : List (Option ℕ)) → ∥ Chained n E j heads nexts ∥₁ → Chained n E j heads nexts
-chained_of n E j heads nexts t = record {
-  heads_long = ∥∥₁_elim t (ℕ_set _ _) (λ c. c.heads_long);
-  nexts_long = ∥∥₁_elim t (ℕ_set _ _) (λ c. c.nexts_long);
-  head = λ i h. ∥∥₁_elim t (Prim.hlevel props) (λ c. c.head i h);
-  next = λ k i h goes. ∥∥₁_elim t (Prim.hlevel props) (λ c. c.next k i h goes);
-}
 
 goes_from_origin : (o : Option (ℕ × ℕ)) (i : ℕ) → goes_from o i ≡ true → origin o ≡ i
 goes_from_origin None i h = cc

@@ -2,9 +2,9 @@
 use Rattle.std.proofs.Common.{◌≡◌, ℕ, ◌<◌, Bool, true, false, cond, List, [], ◌∷◌, ◌++◌, length, get_or, set, Option, sym, refl, ap, ◌∙◌, subst, inl, inr, ⊎_elim, arith}
 use Rattle.std.proofs.lemmas.List.{length-set, length_push, set-get_or}
 use Rattle.std.proofs.lemmas.Bool.{cases_Bool, cond-true, cond-false}
-use Rattle.graph.specs.Reached.{Marked, Step, Reached, given, by, Marking}
 use Rattle.std.specs.List.{Contains}
 use Rattle.std.proofs.lemmas.List.Elements.{Contains-append_left, Contains-push, Contains-push_cases}
+use Rattle.graph.specs.Reached.{Marked, Step, Reached, given, by, Marking}
 use Rattle.graph.specs.Spreading.{Lined, Grown, Spread, Spreading}
 use Rattle.graph.proofs.Lining.{marked_set_same, marked_set, marked_unset, unmarked_set}
 

@@ -1,6 +1,7 @@
 ghost use Rattle.std.specs.Prelude.{◌≡◌, ◌<◌, true};
 ghost use Rattle.graph.specs.Chains.{Chained, chain_targets, counts, targets};
 ghost use Rattle.std.specs.Iterator.{YieldsFirst, item_count};
+ghost use Rattle.std.proofs.Props.{props};
 
 use crate::chains::Chains;
 use crate::graph::Graph;
@@ -10,7 +11,7 @@ use crate::graph::Graph;
 pub(crate) struct PairsByPlace<'a, G: Graph> {
     pub(crate) graph: &'a G,
     pub(crate) chains: &'a Chains,
-    ghost chained: { ∥ Chained (G.place_count graph.now) (G.pair_at graph.now) (G.pair_count graph.now) chains.now.heads.items chains.now.nexts.items ∥₁ },
+    ghost chained: { Chained (G.place_count graph.now) (G.pair_at graph.now) (G.pair_count graph.now) chains.now.heads.items chains.now.nexts.items } by { Prim.hlevel props },
 }
 
 impl<G: Graph> PairsByPlace<'_, G> {

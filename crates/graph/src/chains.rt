@@ -1,12 +1,12 @@
-ghost use Rattle.std.specs.Prelude.{◌≡◌, ◌+◌, ◌<◌, ◌≤◌, vec_len, vec_capacity};
+ghost use Rattle.std.specs.Prelude.{◌≡◌, ◌≤◌, vec_capacity};
 ghost use Rattle.graph.specs.Chains.{Chained, in_range};
 
 use crate::graph::Graph;
 
 /// The pairs from one place, chained from the last to the first.
-// By number and not by `Box`: the room is had beforehand, so that marking needs no memory.
 #[derive(Drop)]
 pub(crate) struct Chains {
+    // Links are numbers and no boxes: the room is had beforehand, so that marking needs no memory.
     /// for each place the last pair from it
     pub(crate) heads: Vec<Option<usize>>,
     /// for each pair the one before it from the same place
@@ -39,6 +39,7 @@ impl Chains {
         self.nexts.clear();
         let _ = self.heads.resize(places, None);
         for number in 0..pairs {
+            // A `match`: a closure for `and_then` would change `self.heads`, and need clauses that say so.
             let before = match pair_in_range(graph, places, number) {
                 Some((from, _)) => self.heads[from].replace(number),
                 None => None,

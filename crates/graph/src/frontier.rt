@@ -1,4 +1,4 @@
-ghost use Rattle.std.specs.Prelude.{◌≡◌, ℕ, ◌+◌, ◌<◌, ◌≤◌, true, false, not, [], ◌∷◌, ◌++◌, length, count_by, All, get_or, if◌then◌else◌, IfSome, MatchOption, vec_len, vec_capacity, slice_set};
+ghost use Rattle.std.specs.Prelude.{◌≡◌, ◌+◌, ◌<◌, ◌≤◌, true, false, not, [], ◌∷◌, ◌++◌, length, count_by, All, get_or, if◌then◌else◌, IfSome, MatchOption, vec_len, vec_capacity, slice_set};
 ghost use Rattle.graph.specs.Reached.{Marked};
 ghost use Rattle.graph.specs.Spreading.{Lined};
 ghost use Rattle.std.proofs.Props.{props};

@@ -1,4 +1,4 @@
-ghost use Rattle.std.specs.Prelude.{◌≡◌, false, length, is_ok, Ok, Some, vec_capacity};
+ghost use Rattle.std.specs.Prelude.{◌≡◌, false, length, is_ok, Ok, Some};
 ghost use Rattle.graph.specs.Laws.{Laws};
 ghost use Rattle.graph.specs.Lent.{SameLent};
 ghost use Rattle.graph.specs.Reached.{Marked, Marking};

@@ -8,7 +8,7 @@ use std::alloc::{AllocError, Global};
 /// The memory is had when it is made: marking itself cannot fail for want of it.
 #[derive(Drop)]
 pub struct Workspace {
-    // Both numbers stand beside the vectors: what is refused goes by them, and a capacity may be larger.
+    // Both numbers stand beside the vectors: a refusal goes by them, and a capacity may be larger.
     /// how many places a graph may have
     pub(crate) places: usize,
     /// how many pairs a graph may have
