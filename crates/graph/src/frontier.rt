@@ -48,8 +48,8 @@ impl<'a> Frontier<'a> {
         }
     }
 
-    /// A place that waits does so no more.
-    pub(crate) fn next(&mut self) -> Option<usize>
+    /// Takes a place from those that wait.
+    pub(crate) fn pop(&mut self) -> Option<usize>
         ensures waiting { MatchOption result ((self.old.waiting.now.items ≡ []) × (self.new.waiting.now.items ≡ [])) (λ place. self.old.waiting.now.items ≡ self.new.waiting.now.items ++ place ∷ []) }
         ensures marked { IfSome result (λ place. Marked self.new.marks.now place) }
         ensures marks { self.new.marks.now ≡ self.old.marks.now }

@@ -33,7 +33,7 @@ fn spread_all<G: Graph>(pairs: &PairsByPlace<G>, front: &mut Frontier)
     ensures marking { Marking (G.place_count pairs.now.graph.now) (G.pair_count pairs.now.graph.now) (G.pair_at pairs.now.graph.now) front.old.marks.now front.new.marks.now }
     ensures lent { SameLent front.old front.new }
 {
-    while let Some(place) = front.next() {
+    while let Some(place) = front.pop() {
         spread(pairs, place, front);
     }
 }

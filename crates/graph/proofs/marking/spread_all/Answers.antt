@@ -10,10 +10,10 @@ loop-place-init g c = record {
 
 pub loop-place-preserved : goal.loop-place-preserved
 loop-place-preserved g c = record {
-  spreads = spreading_more _ _ _ _ _ _ _ c.in-Some.place _ _ c.loop-place.invariant.spreads c.in-Some.ensures.waiting (rw c.next.ensures.marks at c.spread.ensures.grows)
+  spreads = spreading_more _ _ _ _ _ _ _ c.in-Some.place _ _ c.loop-place.invariant.spreads c.in-Some.ensures.waiting (rw c.pop.ensures.marks at c.spread.ensures.grows)
       c.spread.ensures.leads;
-  lent = lent_on _ _ _ (lent_on _ _ _ c.loop-place.invariant.lent c.next.ensures.lent) c.spread.ensures.lent;
+  lent = lent_on _ _ _ (lent_on _ _ _ c.loop-place.invariant.lent c.pop.ensures.lent) c.spread.ensures.lent;
 }
 
 pub returns-clause-marking : goal.returns-clause-marking
-returns-clause-marking g c = rw c.next.ensures.marks (spreading_ends _ _ _ _ _ _ c.requires.long c.loop-place.invariant.spreads c.in_default.ensures.waiting.0)
+returns-clause-marking g c = rw c.pop.ensures.marks (spreading_ends _ _ _ _ _ _ c.requires.long c.loop-place.invariant.spreads c.in_default.ensures.waiting.0)

@@ -1,7 +1,7 @@
 use Rattle.std.proofs.Common.{arith}
 use Rattle.std.proofs.lemmas.List.Elements.{All-pop}
 use Rattle.graph.specs.Reached.{Marked}
-use Rattle.graph.proofs.frontier.Frontier.next.Goals as goal
+use Rattle.graph.proofs.frontier.Frontier.pop.Goals as goal
 
 pub invariant_of-self : goal.invariant_of-self
 invariant_of-self c = record {
