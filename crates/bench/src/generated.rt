@@ -24,12 +24,9 @@ impl Graph for Chain {
     }
 
     fn pair(&self, number: usize) -> Option<(usize, usize)> {
-        let last = self.places.saturating_sub(1);
-        if number < last {
-            Some((last - 1 - number, last - number))
-        } else {
-            None
-        }
+        let to = self.pairs().checked_sub(number)?;
+        let from = to.checked_sub(1)?;
+        Some((from, to))
     }
 }
 
@@ -55,10 +52,8 @@ impl Graph for Dense {
 
     fn pair(&self, number: usize) -> Option<(usize, usize)> {
         let places = self.places as usize;
-        if places > 0 {
-            Some((number / places, number % places))
-        } else {
-            None
-        }
+        let from = number.checked_div(places)?;
+        let to = number.checked_rem(places)?;
+        Some((from, to))
     }
 }

@@ -1,6 +1,6 @@
 -- Laws of the chains of pairs: one pair more, and what a pair of a chain says.
-use Rattle.std.proofs.Common.{◌≡◌, ℕ, zero, suc, ◌+◌, ◌<◌, Bool, true, false, cond, ◌&&◌, eqb, ltb, List, [], ◌∷◌, ◌++◌, get_or, set, replicate, Some, None, Option, sym, refl, ap, ◌∙◌, ⊎_elim, add-one, arith}
-use Rattle.std.proofs.lemmas.List.{length-set, length_push, length-replicate, get_or_push, get_or_append_left, get_or-set_same, get_or-set_other, get_or-replicate, get_or_read_under}
+use Rattle.std.proofs.Common.{◌≡◌, ℕ, zero, suc, ◌+◌, ◌<◌, Bool, true, false, cond, ◌&&◌, eqb, ltb, List, [], ◌∷◌, ◌++◌, get_or, set, Some, None, Option, sym, refl, ap, ◌∙◌, ⊎_elim, add-one, arith}
+use Rattle.std.proofs.lemmas.List.{length-set, length_push, get_or_push, get_or_append_left, get_or-set_same, get_or-set_other, get_or_read_under}
 use Rattle.std.proofs.lemmas.Bool.{cond-true, cond-false, cases_eq, cases_lt, eq-eqb, ne_eqb, eqb-true, ltb-true, lt-ltb, and_parts, and_from}
 use Rattle.graph.specs.Chains.{in_range, goes_from, last_from, Chained}
 
@@ -12,15 +12,6 @@ last_here n E j i h = last_on n E j i ∙ cond-true (goes_from (in_range n (E j)
 
 pub last_before : (n : ℕ) (E : ℕ → Option (ℕ × ℕ)) (j i : ℕ) → goes_from (in_range n (E j)) i ≡ false → last_from n E (j + 1) i ≡ last_from n E j i
 last_before n E j i h = last_on n E j i ∙ cond-false (goes_from (in_range n (E j)) i) (Some j) (last_from n E j i) h
-
--- no pair is chained yet
-pub chained_none : (n : ℕ) (E : ℕ → Option (ℕ × ℕ)) → Chained n E 0 (replicate n None) []
-chained_none n E = record {
-  heads_long = length-replicate n None;
-  nexts_long = refl;
-  head = λ i h. get_or-replicate n i None None h;
-  next = λ k i h _. absurd (omega arith);
-}
 
 -- the pairs that were chained before, and the one that is added
 nexts_more : (n : ℕ) (E : ℕ → Option (ℕ × ℕ)) (j : ℕ) (heads nexts : List (Option ℕ)) (x : Option ℕ) → Chained n E j heads nexts →
@@ -83,16 +74,6 @@ pub in_range_from : (n : ℕ) (o : Option (ℕ × ℕ)) (a b : ℕ) → o ≡ So
 in_range_from n o a b e h k =
     ap (in_range n) e ∙ cond-true (ltb a n && ltb b n) (Some (a, b)) None (and_from (ltb a n) (ltb b n) (lt-ltb a n h) (lt-ltb b n k))
 
-pub same_target : (o : Option (ℕ × ℕ)) (i k a b : ℕ) → o ≡ Some (i, k) → o ≡ Some (a, b) → k ≡ b
-same_target o i k a b e f = let q : ◌≡◌ {A = ℕ × ℕ} (i, k) (a, b) = cc in ap (λ (p : ℕ × ℕ). p.1) q
-
-pub none_not_some : (o : Option (ℕ × ℕ)) (p : ℕ × ℕ) → o ≡ None → o ≡ Some p → ⊥
-none_not_some o p e f = let z : ◌≡◌ {A = ℕ} 0 1 = cc in absurd (omega arith)
-
--- a pair from i: the pair that counts
-pub goes_from_is : (o : Option (ℕ × ℕ)) (a b i : ℕ) → o ≡ Some (a, b) → goes_from o i ≡ true → a ≡ i
-goes_from_is o a b i e h = eqb-true a i (ap (λ (x : Option (ℕ × ℕ)). goes_from x i) (sym e) ∙ h)
-
 pub goes_from_lem : (o : Option (ℕ × ℕ)) (i b : ℕ) → o ≡ Some (i, b) → goes_from o i ≡ true
 goes_from_lem o i b e = ap (λ (x : Option (ℕ × ℕ)). goes_from x i) e ∙ eq-eqb i i refl
 
@@ -117,25 +98,6 @@ last_is n E (suc j) i l e = go (goes_from (in_range n (E j)) i) refl e (last_is 
             (cases_lt k j),
       )
 
-pub last_is_none : (n : ℕ) (E : ℕ → Option (ℕ × ℕ)) (j i : ℕ) → last_from n E j i ≡ None → (k : ℕ) → k < j → goes_from (in_range n (E k)) i ≡ false
-last_is_none n E zero i e k h = absurd (omega arith)
-last_is_none n E (suc j) i e k h = go (goes_from (in_range n (E j)) i) refl e (last_is_none n E j i) where
-  go : (t : Bool) → goes_from (in_range n (E j)) i ≡ t → cond t (Some j) (last_from n E j i) ≡ None →
-      (last_from n E j i ≡ None → (k : ℕ) → k < j → goes_from (in_range n (E k)) i ≡ false) → goes_from (in_range n (E k)) i ≡ false
-  go true t e ih = let z : ◌≡◌ {A = ℕ} 0 1 = cc in absurd (omega arith)
-  go false t e ih = ⊎_elim
-      (λ l. ih e k l)
-      (λ l. let s : k ≡ j = omega arith in ap (λ (x : ℕ). goes_from (in_range n (E x)) i) s ∙ t)
-      (cases_lt k j)
-
-pub in_range_of : (l n : ℕ) (o : Option (ℕ × ℕ)) → l ≡ n → in_range n o ≡ in_range l o
-in_range_of l n o e = ap (λ (x : ℕ). in_range x o) (sym e)
-
--- a pair goes from one place only
-pub goes_from_only : (o : Option (ℕ × ℕ)) (i k : ℕ) → goes_from o i ≡ true → goes_from o k ≡ true → i ≡ k
-goes_from_only None i k a b = let z : ◌≡◌ {A = ℕ} 0 1 = cc in absurd (omega arith)
-goes_from_only (Some p) i k a b = sym (eqb-true p.0 i a) ∙ eqb-true p.0 k b
-
 -- what is read of the chains in the code
 pub head_read : (n : ℕ) (E : ℕ → Option (ℕ × ℕ)) (j : ℕ) (heads nexts : List (Option ℕ)) (i : ℕ) (x : Option ℕ) → Chained n E j heads nexts →
     i < n → x ≡ get_or heads i x → x ≡ get_or heads i None
@@ -150,11 +112,11 @@ pub add_none : (n : ℕ) (E : ℕ → Option (ℕ × ℕ)) (j : ℕ) (heads next
     None ≡ in_range n (E j) → nexts' ≡ nexts ++ None ∷ [] → Chained n E (j + 1) heads nexts'
 add_none n E j heads nexts nexts' c e pushed = rw pushed (chained_past_none n E j heads nexts c (sym e))
 
--- what is pushed for a pair that counts: the head of its place, as it was read
-pub add_some : (n : ℕ) (E : ℕ → Option (ℕ × ℕ)) (j : ℕ) (heads nexts nexts' : List (Option ℕ)) (a b : ℕ) (x : Option ℕ) → Chained n E j heads nexts →
-    Some (a, b) ≡ in_range n (E j) → x ≡ get_or heads a x → nexts' ≡ nexts ++ x ∷ [] → Chained n E (j + 1) (set heads a (Some j)) nexts'
-add_some n E j heads nexts nexts' a b x c e read pushed =
+-- what is pushed for a pair that counts: the head of its place, as it was
+pub add_some : (n : ℕ) (E : ℕ → Option (ℕ × ℕ)) (j : ℕ) (heads nexts nexts' : List (Option ℕ)) (a b : ℕ) (x y : Option ℕ) → Chained n E j heads nexts →
+    Some (a, b) ≡ in_range n (E j) → x ≡ get_or heads a x → y ≡ Some j → nexts' ≡ nexts ++ x ∷ [] → Chained n E (j + 1) (set heads a y) nexts'
+add_some n E j heads nexts nexts' a b x y c e read is pushed =
     let inside : a < n = (in_range_is n (E j) a b (sym e)).0 in
     let filled : nexts' ≡ nexts ++ get_or heads a None ∷ [] =
-    pushed ∙ ap (λ (y : Option ℕ). nexts ++ y ∷ []) (head_read n E j heads nexts a x c inside read) in
-    rw filled (chained_past_some n E j heads nexts a b c (sym e) inside)
+    pushed ∙ ap (λ (o : Option ℕ). nexts ++ o ∷ []) (head_read n E j heads nexts a x c inside read) in
+    rw (is, filled) (chained_past_some n E j heads nexts a b c (sym e) inside)

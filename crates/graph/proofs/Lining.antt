@@ -1,11 +1,13 @@
--- Laws of the queue of marked places: one place more in the list of marks, one place more that is marked.
-use Rattle.std.proofs.Common.{◌≡◌, ℕ, ◌+◌, ◌<◌, Bool, true, false, cond, not, ◌⊎◌, List, [], ◌∷◌, ◌++◌, length, get_or, take, set, sym, refl, ap, ◌∙◌, subst, inl, inr, ⊎_elim, arith}
+-- Laws of marked places that wait in a list: one place more in the list of marks, one place more that is marked.
+use Rattle.std.proofs.Common.{◌≡◌, ℕ, ◌+◌, ◌<◌, Bool, true, false, cond, not, ◌⊎◌, List, [], ◌∷◌, ◌++◌, length, get_or, take, set, count_by, sym, refl, ap, ◌∙◌, subst, inl, inr, ⊎_elim, arith}
 use borrow.Author.Tests.{clash}
-use Rattle.std.proofs.lemmas.List.{length-set, length_push, length-take-le, take_more, get_or_past, get_or_push, get_or_append_left, get_or-set_same, get_or-set_other}
-use Rattle.std.proofs.lemmas.List.Sums.{sum_by_push, sum_by-set, get_or-le-sum_by}
+use Rattle.std.proofs.lemmas.List.{length_push, length-take-le, take_more, get_or_past, get_or_push, get_or_append_left, get_or-set_same, get_or-set_other, set-get_or}
+use Rattle.std.specs.List.{All, Contains}
+use Rattle.std.proofs.lemmas.List.Elements.{All-push, All-weaker, Contains-append_left, Contains-push}
+use Rattle.std.proofs.lemmas.List.Sums.{sum_by_push, sum_by-set}
 use Rattle.std.proofs.lemmas.Bool.{cases_eq, cases_lt}
 use Rattle.graph.specs.Reached.{Marked}
-use Rattle.graph.specs.Spreading.{Queued, Lined}
+use Rattle.graph.specs.Spreading.{Lined}
 
 pub marked_inside : (marks : List Bool) (k : ℕ) → Marked marks k → k < length marks
 marked_inside marks k h = ⊎_elim (λ l. l) (λ l. absurd (clash (sym (get_or_past marks k false l) ∙ h))) (cases_lt k (length marks))
@@ -28,30 +30,6 @@ marked_unset marks k j h = ⊎_elim
     (λ ne. inr (sym (get_or-set_other marks k j true false ne) ∙ h))
     (cases_eq j k)
 
-queued_more : (queue : List ℕ) (x k : ℕ) → Queued queue k → Queued (queue ++ x ∷ []) k
-queued_more queue x k h = record {
-  place = h.place;
-  within = simp length_push (omega (arith, h.within));
-  is = get_or_append_left queue (x ∷ []) 0 h.place h.within ∙ h.is;
-}
-
-queued_last : (queue : List ℕ) (x : ℕ) → Queued (queue ++ x ∷ []) x
-queued_last queue x = record {
-  place = length queue;
-  within = simp length_push (omega arith);
-  is = get_or_push queue x 0 (length queue) refl;
-}
-
--- what holds of each place in the queue and of one more
-each_push : (P : ℕ → Type 0) (queue : List ℕ) (x : ℕ) → ((q : ℕ) → q < length queue → P (get_or queue q 0)) → P x →
-    (q : ℕ) → q < length (queue ++ x ∷ []) → P (get_or (queue ++ x ∷ []) q 0)
-each_push P queue x all here q h = ⊎_elim
-    (λ l. subst P (sym (get_or_append_left queue (x ∷ []) 0 q l)) (all q l))
-    (λ l.
-    let e : length queue ≡ q = omega (arith, length_push queue x) in
-    subst P (sym (get_or_push queue x 0 q e)) here)
-    (cases_lt q (length queue))
-
 -- marks behind the end of a list of marks
 marked_push : (marks : List Bool) (b : Bool) (k : ℕ) → Marked marks k → Marked (marks ++ b ∷ []) k
 marked_push marks b k h = get_or_append_left marks (b ∷ []) false k (marked_inside marks k h) ∙ h
@@ -65,73 +43,59 @@ marked_unpush marks b k h = ⊎_elim
     inl (sym e, sym (get_or_push marks b false k e) ∙ h))
     (cases_lt k (length marks))
 
-pub lined_none : Lined [] []
-lined_none = record {
-  counted = refl;
-  queued = λ q h. absurd (omega arith);
-  waits = λ k h. absurd (clash h);
-}
-
-pub lined_past_marked : (marks : List Bool) (queue : List ℕ) → Lined marks queue → Lined (marks ++ true ∷ []) (queue ++ length marks ∷ [])
-lined_past_marked marks queue l = record {
+pub lined_past_marked : (marks : List Bool) (waiting : List ℕ) → Lined marks waiting → Lined (marks ++ true ∷ []) (waiting ++ length marks ∷ [])
+lined_past_marked marks waiting l = record {
   counted = let e = sum_by_push (λ (x : Bool). cond (not x) 1 0) marks true in
-      omega (arith, e, length_push queue (length marks), length_push marks true, l.counted);
-  queued = each_push (Marked (marks ++ true ∷ [])) queue (length marks)
-      (λ q h. marked_push marks true (get_or queue q 0) (l.queued q h))
+      omega (arith, e, length_push waiting (length marks), length_push marks true, l.counted);
+  marked = All-push (Marked (marks ++ true ∷ [])) waiting (length marks)
+      (All-weaker (Marked marks) (Marked (marks ++ true ∷ [])) (marked_push marks true) waiting l.marked)
       (get_or_push marks true false (length marks) refl);
   waits = λ k h. ⊎_elim
-      (λ e. subst (Queued (queue ++ length marks ∷ [])) (sym e.0) (queued_last queue (length marks)))
-      (λ old. queued_more queue (length marks) k (l.waits k old))
+      (λ e. subst (Contains (waiting ++ length marks ∷ [])) (sym e.0) (Contains-push waiting (length marks)))
+      (λ old. Contains-append_left waiting (length marks ∷ []) k (l.waits k old))
       (marked_unpush marks true k h);
 }
 
-pub lined_past_unmarked : (marks : List Bool) (queue : List ℕ) → Lined marks queue → Lined (marks ++ false ∷ []) queue
-lined_past_unmarked marks queue l = record {
+pub lined_past_unmarked : (marks : List Bool) (waiting : List ℕ) → Lined marks waiting → Lined (marks ++ false ∷ []) waiting
+lined_past_unmarked marks waiting l = record {
   counted = let e = sum_by_push (λ (x : Bool). cond (not x) 1 0) marks false in
       omega (arith, e, length_push marks false, l.counted);
-  queued = λ q h. marked_push marks false (get_or queue q 0) (l.queued q h);
+  marked = All-weaker (Marked marks) (Marked (marks ++ false ∷ [])) (marked_push marks false) waiting l.marked;
   waits = λ k h. ⊎_elim
       (λ e. absurd (clash e.1))
       (λ old. l.waits k old)
       (marked_unpush marks false k h);
 }
 
--- an unmarked place is marked and goes to the end of the queue
-pub lined_set : (marks : List Bool) (queue : List ℕ) (k : ℕ) → k < length marks → get_or marks k false ≡ false → Lined marks queue →
-    Lined (set marks k true) (queue ++ k ∷ [])
-lined_set marks queue k h un l = record {
-  counted =
-      let e = sum_by-set (λ (x : Bool). cond (not x) 1 0) marks k true false h in
-      let f : ◌≡◌ {A = ℕ} (cond (not (get_or marks k false)) 1 0) 1 = ap (λ (x : Bool). let n : ℕ = cond (not x) 1 0 in n) un in
-      omega (arith, e, f, length_push queue k, length-set marks k true, l.counted);
-  queued = each_push (Marked (set marks k true)) queue k
-      (λ q i. marked_set marks k (get_or queue q 0) (l.queued q i))
-      (marked_set_same marks k h);
-  waits = λ j i. ⊎_elim
-      (λ e. subst (Queued (queue ++ k ∷ [])) (sym e) (queued_last queue k))
-      (λ old. queued_more queue k j (l.waits j old))
-      (marked_unset marks k j i);
-}
+-- an unmarked place is marked, and joins the list
+pub all_marked_push : (marks : List Bool) (waiting waiting' : List ℕ) (k : ℕ) (b : Bool) → b ≡ true → waiting' ≡ waiting ++ k ∷ [] → k < length marks →
+    All (Marked marks) waiting → All (Marked (set marks k b)) waiting'
+all_marked_push marks waiting waiting' k b is e h all = rw (is, e) (All-push (Marked (set marks k true)) waiting k
+    (All-weaker (Marked marks) (Marked (set marks k true)) (marked_set marks k) waiting all)
+    (marked_set_same marks k h))
 
--- where a place is not marked, the queue is shorter than the list of marks
-pub lined_room : (marks : List Bool) (queue : List ℕ) (k : ℕ) → k < length marks → get_or marks k false ≡ false → Lined marks queue →
-    length queue < length marks
-lined_room marks queue k h un l =
-    let e = get_or-le-sum_by (λ (x : Bool). cond (not x) 1 0) marks k false h in
-    let f : ◌≡◌ {A = ℕ} (cond (not (get_or marks k false)) 1 0) 1 = ap (λ (x : Bool). let n : ℕ = cond (not x) 1 0 in n) un in
-    omega (arith, e, f, l.counted)
+pub unmarked_set : (marks : List Bool) (k : ℕ) (b : Bool) → b ≡ true → k < length marks → false ≡ get_or marks k false →
+    count_by not (set marks k b) + 1 ≡ count_by not marks
+unmarked_set marks k b is h un =
+    let e = sum_by-set (λ (x : Bool). cond (not x) 1 0) marks k true false h in
+    let f : ◌≡◌ {A = ℕ} (cond (not (get_or marks k false)) 1 0) 1 = ap (λ (x : Bool). let n : ℕ = cond (not x) 1 0 in n) (sym un) in
+    rw is (omega (arith, e, f))
+
+-- a marked place is marked again
+pub marked_again : (marks : List Bool) (k : ℕ) (b : Bool) → b ≡ true → true ≡ get_or marks k false → set marks k b ≡ marks
+marked_again marks k b is old = ap (λ (x : Bool). set marks k x) (is ∙ old) ∙ set-get_or marks k false
 
 -- the marks up to a place, and those up to the next
-pub lined_more_marked : (marks : List Bool) (i : ℕ) (queue : List ℕ) {queue' : List ℕ} → i < length marks → get_or marks i false ≡ true →
-    queue' ≡ queue ++ i ∷ [] → Lined (take i marks) queue → Lined (take (i + 1) marks) queue'
-lined_more_marked marks i queue {queue' = queue'} h yes' e l =
+pub lined_more_marked : (marks : List Bool) (i : ℕ) (waiting : List ℕ) {waiting' : List ℕ} → i < length marks → get_or marks i false ≡ true →
+    waiting' ≡ waiting ++ i ∷ [] → Lined (take i marks) waiting → Lined (take (i + 1) marks) waiting'
+lined_more_marked marks i waiting {waiting' = waiting'} h yes' e l =
     let t : take (i + 1) marks ≡ take i marks ++ true ∷ [] = take_more marks i false h ∙ ap (λ (b : Bool). take i marks ++ b ∷ []) yes' in
     let u : length (take i marks) ≡ i = length-take-le i marks (omega arith) in
-    let v : queue' ≡ queue ++ length (take i marks) ∷ [] = e ∙ ap (λ (x : ℕ). queue ++ x ∷ []) (sym u) in
-    rw (t, v) (lined_past_marked (take i marks) queue l)
+    let v : waiting' ≡ waiting ++ length (take i marks) ∷ [] = e ∙ ap (λ (x : ℕ). waiting ++ x ∷ []) (sym u) in
+    rw (t, v) (lined_past_marked (take i marks) waiting l)
 
-pub lined_more_unmarked : (marks : List Bool) (i : ℕ) (queue : List ℕ) {queue' : List ℕ} → i < length marks → get_or marks i false ≡ false →
-    queue' ≡ queue → Lined (take i marks) queue → Lined (take (i + 1) marks) queue'
-lined_more_unmarked marks i queue h un e l =
+pub lined_more_unmarked : (marks : List Bool) (i : ℕ) (waiting : List ℕ) {waiting' : List ℕ} → i < length marks → get_or marks i false ≡ false →
+    waiting' ≡ waiting → Lined (take i marks) waiting → Lined (take (i + 1) marks) waiting'
+lined_more_unmarked marks i waiting h un e l =
     let t : take (i + 1) marks ≡ take i marks ++ false ∷ [] = take_more marks i false h ∙ ap (λ (b : Bool). take i marks ++ b ∷ []) un in
-    rw (t, e) (lined_past_unmarked (take i marks) queue l)
+    rw (t, e) (lined_past_unmarked (take i marks) waiting l)

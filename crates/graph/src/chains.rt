@@ -1,4 +1,4 @@
-ghost use Rattle.std.specs.Prelude.{◌≡◌, ◌+◌, ◌<◌, ◌≤◌, vec_len, vec_capacity};
+ghost use Rattle.std.specs.Prelude.{◌≡◌, ◌≤◌, vec_capacity};
 ghost use Rattle.graph.specs.Chains.{Chained, in_range};
 
 use crate::graph::Graph;
@@ -6,6 +6,7 @@ use crate::graph::Graph;
 /// The pairs from one place, chained from the last to the first.
 #[derive(Drop)]
 pub(crate) struct Chains {
+    // Links are numbers and no boxes: the room is had beforehand, so that marking needs no memory.
     /// for each place the last pair from it
     pub(crate) heads: Vec<Option<usize>>,
     /// for each pair the one before it from the same place
@@ -20,29 +21,12 @@ pub(crate) fn pair_in_range<G: Graph>(
 ) -> Option<(usize, usize)>
     ensures { result ≡ in_range places (G.pair_at graph.now number) }
 {
-    match graph.pair(number) {
-        Some((from, to)) if from < places && to < places => Some((from, to)),
-        _ => None,
-    }
+    graph
+        .pair(number)
+        .filter(|pair| pair.0 < places && pair.1 < places)
 }
 
 impl Chains {
-    /// Chains one more pair.
-    fn add<G: Graph>(&mut self, graph: &G, places: usize, number: usize)
-        requires chained { Chained places (G.pair_at graph.now) number self.old.heads.items self.old.nexts.items }
-        requires room { vec_len self.old.nexts < vec_capacity self.old.nexts }
-        ensures chained { Chained places (G.pair_at graph.now) (number + 1) self.new.heads.items self.new.nexts.items }
-        ensures heads_room { vec_capacity self.old.heads ≤ vec_capacity self.new.heads }
-        ensures nexts_room { vec_capacity self.old.nexts ≤ vec_capacity self.new.nexts }
-    {
-        let Some((from, _)) = pair_in_range(graph, places, number) else {
-            self.nexts.push_reserved(None);
-            return;
-        };
-        self.nexts.push_reserved(self.heads[from]);
-        self.heads[from] = Some(number);
-    }
-
     /// Chains all pairs of a graph, and forgets what was chained before.
     pub(crate) fn chain<G: Graph>(&mut self, graph: &G, places: usize, pairs: usize)
         requires heads { places ≤ vec_capacity self.old.heads }
@@ -55,7 +39,12 @@ impl Chains {
         self.nexts.clear();
         let _ = self.heads.resize(places, None);
         for number in 0..pairs {
-            self.add(graph, places, number);
+            // A `match`: a closure for `and_then` would change `self.heads`, and need clauses that say so.
+            let before = match pair_in_range(graph, places, number) {
+                Some((from, _)) => self.heads[from].replace(number),
+                None => None,
+            };
+            self.nexts.push_reserved(before);
         }
     }
 }

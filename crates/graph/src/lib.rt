@@ -2,7 +2,9 @@
 
 #![tactic(auto)]
 
+mod by_place;
 mod chains;
+mod frontier;
 mod graph;
 mod laws;
 mod marking;

@@ -28,11 +28,7 @@ impl Graph for Listed<'_> {
     }
 
     fn pair(&self, number: usize) -> Option<(usize, usize)> {
-        if number < self.pairs.len() {
-            self.pairs[number]
-        } else {
-            None
-        }
+        self.pairs.get(number).copied().flatten()
     }
 }
 

@@ -8,16 +8,17 @@ use std::alloc::{AllocError, Global};
 /// The memory is had when it is made: marking itself cannot fail for want of it.
 #[derive(Drop)]
 pub struct Workspace {
+    // Both numbers stand beside the vectors: a refusal goes by them, and a capacity may be larger.
     /// how many places a graph may have
     pub(crate) places: usize,
     /// how many pairs a graph may have
     pub(crate) pairs: usize,
     pub(crate) chains: Chains,
-    /// the marked places, in the order in which they spread
-    pub(crate) queue: Vec<usize>,
+    /// the marked places whose pairs have not been followed yet
+    pub(crate) waiting: Vec<usize>,
     ghost heads_fit: { places ≤ vec_capacity chains.heads },
     ghost nexts_fit: { pairs ≤ vec_capacity chains.nexts },
-    ghost queue_fits: { places ≤ vec_capacity queue },
+    ghost waiting_fits: { places ≤ vec_capacity waiting },
 }
 
 impl Workspace {
@@ -27,12 +28,12 @@ impl Workspace {
     {
         let heads = Vec::with_capacity(heap, places)?;
         let nexts = Vec::with_capacity(heap, pairs)?;
-        let queue = Vec::with_capacity(heap, places)?;
+        let waiting = Vec::with_capacity(heap, places)?;
         Ok(Workspace {
             places,
             pairs,
             chains: Chains { heads, nexts },
-            queue,
+            waiting,
         })
     }
 

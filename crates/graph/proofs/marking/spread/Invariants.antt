@@ -1,13 +1,17 @@
-use Rattle.std.proofs.Common.{◌≤◌, vec_items, vec_capacity}
-use Rattle.graph.specs.Chains.{reach}
-use Rattle.graph.proofs.Walks.{Walked}
+use Rattle.std.proofs.Common.{vec_items}
+use Rattle.graph.specs.Lent.{SameLent}
+use Rattle.graph.specs.Chains.{chain_targets}
+use Rattle.graph.proofs.Following.{Followed}
 use Rattle.graph.proofs.marking.spread.Given as goal
 
-abbrev pub invariant-loop-next : goal.invariant-loop-next
-invariant-loop-next g l =
-    Walked (g.G.Graph.place_count l.graph) (g.G.Graph.pair_count l.graph) (g.G.Graph.pair_at l.graph) l.place
-    l.initial.marks (vec_items l.initial.queue) l.marks (vec_items l.queue) l.next
-    × (vec_capacity l.initial.queue ≤ vec_capacity l.queue)
-
-abbrev pub decreases-loop-next : goal.decreases-loop-next
-decreases-loop-next g l = reach l.next
+-- the marks of the targets so far, and those that the iterator has left
+abbrev pub invariant-loop-to : goal.invariant-loop-to
+invariant-loop-to g l =
+    let it = l.to-iterator in record {
+      can : (goal.iterator-loop-to g).can_next it;
+      ends : (goal.iterator-loop-to g).is_finite it;
+      followed : Followed (g.G.Graph.place_count l.pairs.graph.now) (g.G.Graph.pair_count l.pairs.graph.now) (g.G.Graph.pair_at l.pairs.graph.now) l.fn.place
+          l.initial.front.marks.now (vec_items l.initial.front.waiting.now) l.front.marks.now (vec_items l.front.waiting.now)
+          (chain_targets (g.G.Graph.place_count it.pairs.now.graph.now) (g.G.Graph.pair_at it.pairs.now.graph.now) it.next);
+      lent : SameLent l.initial.front l.front;
+    }

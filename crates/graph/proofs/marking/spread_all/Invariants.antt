@@ -1,14 +1,16 @@
-use Rattle.std.proofs.Common.{ℕ, ◌-◌, ◌<◌, ◌≤◌, length, get_or, vec_items, vec_capacity}
-use Rattle.graph.specs.Spreading.{Spreading, Spread}
+use Rattle.std.proofs.Common.{◌+◌, not, count_by, vec_items, vec_len}
+use Rattle.graph.specs.Lent.{SameLent}
+use Rattle.graph.specs.Spreading.{Spreading}
 use Rattle.graph.proofs.marking.spread_all.Given as goal
 
--- the places at the front of the queue have spread their marks
-abbrev pub invariant-loop-done : goal.invariant-loop-done
-invariant-loop-done g l =
-    Spreading (g.G.Graph.place_count l.graph) (g.G.Graph.pair_count l.graph) (g.G.Graph.pair_at l.graph) l.initial.marks l.marks (vec_items l.queue)
-    × (l.done ≤ length (vec_items l.queue))
-    × ((q : ℕ) → q < l.done → Spread (g.G.Graph.place_count l.graph) (g.G.Graph.pair_count l.graph) (g.G.Graph.pair_at l.graph) l.marks (get_or (vec_items l.queue) q 0))
-    × (vec_capacity l.initial.queue ≤ vec_capacity l.queue)
+-- the marked places that do not wait have spread their marks
+abbrev pub invariant-loop-place : goal.invariant-loop-place
+invariant-loop-place g l = record {
+  spreads : Spreading (g.G.Graph.place_count l.pairs.graph.now) (g.G.Graph.pair_count l.pairs.graph.now) (g.G.Graph.pair_at l.pairs.graph.now)
+      l.initial.front.marks.now l.front.marks.now (vec_items l.front.waiting.now);
+  lent : SameLent l.initial.front l.front;
+}
 
-abbrev pub decreases-loop-done : goal.decreases-loop-done
-decreases-loop-done g l = g.G.Graph.place_count l.graph - l.done
+-- the places that wait and those that are not marked
+abbrev pub decreases-loop-place : goal.decreases-loop-place
+decreases-loop-place g l = vec_len l.front.waiting.now + count_by not l.front.marks.now
