@@ -1,6 +1,6 @@
 -- Writing a text piece by piece: what is written, and then what is left, is the whole.
-use Rattle.std.proofs.Common.{◌≡◌, ℕ, ◌+◌, ◌<◌, ◌≤◌, List, [], ◌++◌, length, take, Ok, Err, Result, sym, refl, ap, ◌∙◌, append_assoc, arith, length-append}
-use Rattle.buffer.specs.Appends.{Appended}
+use Rattle.std.proofs.Common.{◌≡◌, ℕ, ◌+◌, ◌<◌, ◌≤◌, List, [], ◌++◌, length, take, Some, Ok, Err, Result, sym, subst, refl, ap, ◌∙◌, append_assoc, arith, length-append}
+use Rattle.buffer.specs.Appends.{Appended, WroteNext}
 use Rattle.std.proofs.lemmas.List.{append-nil, take-append-le, take_at, take-take}
 
 pub record Writing {A : Type 0} (before whole items left : List A) : Type 0 where
@@ -39,6 +39,14 @@ refused before whole items left items' left' piece n w l over nb i = (
   omega (arith, over, simp length-append at (ap length l), simp length-append at (ap length w.same)),
   i ∙ sym (take-append-le n items left (omega (arith, nb, w.kept))) ∙ ap (take n) w.same ∙ take_at before whole n (sym nb),
 )
+
+-- the same where the next piece is read and written by one call
+pub refused_next : {A V E : Type 0} (before whole items left left' after items' : List A) (size size' n : ℕ) (r : Result V E) (e : E) →
+    Writing before whole items left → WroteNext left left' size size' (Some r) items after → r ≡ Err e → n ≡ length before → items' ≡ take n after →
+    (65536 < length before + length whole) × (items' ≡ before)
+refused_next before whole items left left' after items' size size' n r e w next is nb i =
+    let over = subst (λ x. Appended items next.1 x after) is next.3 in
+    refused before whole items left items' left' next.1 n w next.2 over.0 nb (i ∙ ap (take n) over.1)
 
 -- a text that is written in three parts, where there is room for all of it
 pub appended_last : {A V E : Type 0} (before a b c i j after : List A) (r : Result V E) → length before + length (a ++ (b ++ c)) ≤ 65536 →

@@ -2,8 +2,8 @@
 
 #![tactic(auto)]
 
-ghost use Rattle.std.specs.Prelude.{◌≡◌, ◌≤◌, [], ◌∷◌, length, take, IfOk, vec_len, vec_capacity};
-ghost use Rattle.buffer.specs.Appends.{Appended};
+ghost use Rattle.std.specs.Prelude.{◌≡◌, ℕ, ◌≤◌, List, [], ◌∷◌, length, take, IfOk, vec_len, vec_capacity};
+ghost use Rattle.buffer.specs.Appends.{Appended, WroteNext};
 
 use std::alloc::{AllocError, Global};
 
@@ -22,6 +22,19 @@ pub struct Buffer<T> {
     items: Vec<T>,
     ghost reserved: { 65536 ≤ vec_capacity items },
     ghost within: { vec_len items ≤ 65536 },
+}
+
+/// What is written piece by piece.
+pub trait Pieces<T: Copy> {
+    /// The items that are still to be written.
+    ghost left: { Self → List T };
+
+    /// It falls with each piece.
+    ghost size: { Self → ℕ };
+
+    /// Writes the next piece, if there is one more: all of it, or nothing where there is no room.
+    fn write_next(&mut self, out: &mut Buffer<T>) -> Option<Result<(), TooLong>>
+        ensures { WroteNext (left self.old) (left self.new) (size self.old) (size self.new) result out.old.items.items out.new.items.items };
 }
 
 impl<T: Copy> Buffer<T> {
@@ -73,9 +86,20 @@ impl<T: Copy> Buffer<T> {
         if items.len() > LIMIT - self.len() {
             return Err(TooLong);
         }
-        match self.items.extend_from_slice(items) {
-            Ok(()) => Ok(()),
-            Err(_) => Err(TooLong),
+        self.items.extend_from_slice(items).map_err(|_| TooLong)
+    }
+
+    /// Appends all pieces, or nothing where there is no room for all of them.
+    pub fn write_pieces<P: Pieces<T> + Drop>(&mut self, mut pieces: P) -> Result<(), TooLong>
+        ensures { Appended self.old.items.items (P.left pieces) result self.new.items.items }
+    {
+        let before = self.len();
+        while let Some(written) = pieces.write_next(self) {
+            if let Err(refusal) = written {
+                self.truncate(before);
+                return Err(refusal);
+            }
         }
+        Ok(())
     }
 }
