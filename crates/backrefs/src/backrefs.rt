@@ -52,7 +52,7 @@ pub trait Substituter {
 
     /// Appends the text for a digit.
     fn substitute(&self, digit: u8, out: &mut Buffer<u8>) -> Result<(), TooLong>
-        ensures { Appended out.old.items.items (text_of (part self.now digit)) result out.new.items.items };
+        ensures { Appended out.old (text_of (part self.now digit)) result out.new };
 }
 
 /// Puts in `<placeholder_d>` for each digit d.
@@ -100,7 +100,7 @@ fn is_meta(byte: u8) -> bool
 }
 
 fn write_literal_byte(byte: u8, out: &mut Buffer<u8>) -> Result<(), TooLong>
-    ensures { Appended out.old.items.items (literal byte) result out.new.items.items }
+    ensures { Appended out.old (literal byte) result out.new }
 {
     if is_meta(byte) {
         out.extend(&[b'\\', byte])
@@ -111,7 +111,7 @@ fn write_literal_byte(byte: u8, out: &mut Buffer<u8>) -> Result<(), TooLong>
 
 /// Appends a text so that it matches itself.
 pub(crate) fn write_literally(text: &[u8], out: &mut Buffer<u8>) -> Result<(), TooLong>
-    ensures { Appended out.old.items.items (literally text.now) result out.new.items.items }
+    ensures { Appended out.old (literally text.now) result out.new }
 {
     let before = out.len();
     for byte in text {
@@ -128,7 +128,7 @@ fn write_pair<S: Substituter>(
     substituter: &S,
     out: &mut Buffer<u8>,
 ) -> Result<(), TooLong>
-    ensures { Appended out.old.items.items (put (S.part substituter.now) (meant_pair pair)) result out.new.items.items }
+    ensures { Appended out.old (put (S.part substituter.now) (meant_pair pair)) result out.new }
 {
     match pair {
         Pair::Escaped(byte) if byte.is_ascii_digit() => substituter.substitute(byte - b'0', out),
@@ -143,7 +143,7 @@ pub fn substitute_backrefs_in_regex<S: Substituter>(
     substituter: &S,
     out: &mut Buffer<u8>,
 ) -> Result<(), TooLong>
-    ensures text { Appended out.old.items.items (substituted (S.part substituter.now) regex.now) result out.new.items.items }
+    ensures text { Appended out.old (substituted (S.part substituter.now) regex.now) result out.new }
     ensures unchanged { has_backref regex.now ≡ false → substituted (S.part substituter.now) regex.now ≡ regex.now }
 {
     let before = out.len();

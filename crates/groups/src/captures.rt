@@ -205,7 +205,7 @@ impl Numbering {
 }
 
 fn write_number(found: Option<usize>, out: &mut Buffer<usize>) -> Result<(), TooLong>
-    ensures { Appended out.old.items.items (listed found) result out.new.items.items }
+    ensures { Appended out.old (listed found) result out.new }
 {
     match found {
         Some(number) => out.push(number),
@@ -215,7 +215,7 @@ fn write_number(found: Option<usize>, out: &mut Buffer<usize>) -> Result<(), Too
 
 /// Appends the numbers of the capturing groups that lie in no lookaround.
 fn write_group_numbers(regex: &[u8], out: &mut Buffer<usize>) -> Result<(), TooLong>
-    ensures { Appended out.old.items.items (valid_numbers [] 0 (marks regex.now)) result out.new.items.items }
+    ensures { Appended out.old (valid_numbers [] 0 (marks regex.now)) result out.new }
 {
     let before = out.len();
     let mut numbering = Numbering {
@@ -235,7 +235,7 @@ fn write_group_numbers(regex: &[u8], out: &mut Buffer<usize>) -> Result<(), TooL
 /// Appends the numbers of the groups whose text is consumed, rising: 0 for the whole match, and each capturing group that
 /// lies in no lookaround.
 pub fn get_consuming_capture_indexes(regex: &[u8], out: &mut Buffer<usize>) -> Result<(), TooLong>
-    ensures numbers { Appended out.old.items.items (consuming_captures regex.now) result out.new.items.items }
+    ensures numbers { Appended out.old (consuming_captures regex.now) result out.new }
     ensures rising { Rising (consuming_captures regex.now) }
 {
     let before = out.len();

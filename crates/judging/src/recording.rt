@@ -20,7 +20,7 @@ pub enum Untaken {
 
 /// Takes down one verdict. A fault of the number 255 needs no entry: a text without one has that fault.
 fn take_down(text: TextRange, verdict: u8, entries: &mut Buffer<Entry>) -> Result<(), TooLong>
-    ensures { Appended entries.old.items.items (entry_for verdict text) result entries.new.items.items }
+    ensures { Appended entries.old (entry_for verdict text) result entries.new }
 {
     if verdict == UNRECORDED {
         return Ok(());
@@ -35,8 +35,8 @@ pub fn record_verdicts<E: Engine>(
     texts: &[TextRange],
     entries: &mut Buffer<Entry>,
 ) -> Result<(), Untaken>
-    ensures taken { TakenDown (λ t. number_of E.Fault.numbered (E.verdict engine.old t)) whole.now texts.now result entries.new.items.items }
-    ensures agrees { Agreed (λ t. number_of E.Fault.numbered (E.verdict engine.old t)) whole.now texts.now result entries.new.items.items }
+    ensures taken { TakenDown (λ t. number_of E.Fault.numbered (E.verdict engine.old t)) whole.now texts.now result entries.new }
+    ensures agrees { Agreed (λ t. number_of E.Fault.numbered (E.verdict engine.old t)) whole.now texts.now result entries.new }
     ensures kept { (t : List ℕ) → E.verdict engine.new t ≡ E.verdict engine.old t }
 {
     entries.clear();

@@ -9,7 +9,7 @@ use buffer::{Buffer, LIMIT, TooLong};
 use tokens::{Parser, Token, write_token};
 
 fn write_for_newlines(token: Token, out: &mut Buffer<u8>) -> Result<(), TooLong>
-    ensures { Appended out.old.items.items (with_newline (meant token.entry)) result out.new.items.items }
+    ensures { Appended out.old (with_newline (meant token.entry)) result out.new }
 {
     match token {
         Token::Plain(b'$') => out.extend(b"(?m:$)"),
@@ -19,7 +19,7 @@ fn write_for_newlines(token: Token, out: &mut Buffer<u8>) -> Result<(), TooLong>
 
 /// Rewrites a pattern for lines that end with a newline: a `$` matches before that newline.
 pub fn regex_for_newlines(regex: &[u8], out: &mut Buffer<u8>) -> Result<(), TooLong>
-    ensures { Appended out.old.items.items (for_newlines regex.now) result out.new.items.items }
+    ensures { Appended out.old (for_newlines regex.now) result out.new }
 {
     let before = out.len();
     let mut tokens = Parser::new(regex);
@@ -62,7 +62,7 @@ fn is_repeat(next: Option<u8>) -> bool
 
 /// Writes a class that matches the end of the line too.
 fn write_class_or_end(class: &[u8], out: &mut Buffer<u8>) -> Result<(), TooLong>
-    ensures { Appended out.old.items.items (codes "(?:" ++ (class.now ++ codes "|$)")) result out.new.items.items }
+    ensures { Appended out.old (codes "(?:" ++ (class.now ++ codes "|$)")) result out.new }
 {
     if class.len() + 6 > LIMIT - out.len() {
         return Err(TooLong);
@@ -79,7 +79,7 @@ fn write_for_no_newlines(
     out: &mut Buffer<u8>,
 ) -> Result<(), TooLong>
     requires { Right piece }
-    ensures { Appended out.old.items.items (without_newline (meant_piece piece.entry) next) result out.new.items.items }
+    ensures { Appended out.old (without_newline (meant_piece piece.entry) next) result out.new }
 {
     match piece {
         Piece::OptionalNewline => out.extend(b"(?:$|)"),
@@ -96,7 +96,7 @@ fn write_for_no_newlines(
 
 /// Rewrites a pattern for lines that end without a newline: `$` stands where a newline was to match.
 pub fn regex_for_no_newlines(regex: &[u8], out: &mut Buffer<u8>) -> Result<(), TooLong>
-    ensures { Appended out.old.items.items (for_no_newlines regex.now) result out.new.items.items }
+    ensures { Appended out.old (for_no_newlines regex.now) result out.new }
 {
     let before = out.len();
     let mut pieces = Parser::new(regex);

@@ -24,7 +24,7 @@ pub struct PatternScan {
 
 impl PatternScan {
     pub fn new(heap: Global) -> Result<Self, AllocError>
-        ensures { IfOk result (λ s. (s.with_newlines.items.items ≡ []) × (s.without_newlines.items.items ≡ []) × (s.captures.items.items ≡ [])) }
+        ensures { IfOk result (λ s. (s.with_newlines ≡ []) × (s.without_newlines ≡ []) × (s.captures ≡ [])) }
     {
         let rewriter = Rewriter::new(heap)?;
         let with_newlines = Buffer::new(heap)?;
@@ -40,7 +40,7 @@ impl PatternScan {
 
     /// Reads one pattern; what was read before is forgotten.
     pub fn read(&mut self, pattern: &[u8]) -> Verdict
-        ensures { Scanned pattern.now result self.new.with_newlines.items.items self.new.without_newlines.items.items self.new.captures.items.items }
+        ensures { Scanned pattern.now result self.new.with_newlines self.new.without_newlines self.new.captures }
     {
         self.with_newlines.clear();
         self.without_newlines.clear();
@@ -64,19 +64,19 @@ impl PatternScan {
     }
 
     pub fn with_newlines(&self) -> &[u8]
-        ensures { result.now ≡ self.now.with_newlines.items.items }
+        ensures { result.now ≡ self.now.with_newlines }
     {
         self.with_newlines.as_slice()
     }
 
     pub fn without_newlines(&self) -> &[u8]
-        ensures { result.now ≡ self.now.without_newlines.items.items }
+        ensures { result.now ≡ self.now.without_newlines }
     {
         self.without_newlines.as_slice()
     }
 
     pub fn captures(&self) -> &[usize]
-        ensures { result.now ≡ self.now.captures.items.items }
+        ensures { result.now ≡ self.now.captures }
     {
         self.captures.as_slice()
     }

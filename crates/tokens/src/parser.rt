@@ -189,7 +189,7 @@ pub(crate) fn starts_with(text: &[u8], prefix: &[u8]) -> bool
 
 /// Writes a token as it stands.
 pub fn write_token(token: Token, out: &mut Buffer<u8>) -> Result<(), TooLong>
-    ensures { Appended out.old.items.items (spelled (meant token.entry)) result out.new.items.items }
+    ensures { Appended out.old (spelled (meant token.entry)) result out.new }
 {
     match token {
         Token::Escape(byte) => out.extend(&[b'\\', byte]),

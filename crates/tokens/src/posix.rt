@@ -69,7 +69,7 @@ fn bracket_here(walker: &ClassWalker, parser: &Parser) -> Option<PosixClass>
 /// Where there is no room, what is written of it stays for the caller to take away.
 fn replace_in_class(parser: &mut Parser, out: &mut Buffer<u8>) -> Result<(), TooLong>
     requires { front parser.old.rest.now ≡ Some 91 }
-    ensures { Replaced result parser.old.rest.now parser.new.rest.now out.old.items.items out.new.items.items }
+    ensures { Replaced result parser.old.rest.now parser.new.rest.now out.old out.new }
 {
     out.push(b'[')?;
     parser.next();
@@ -94,7 +94,7 @@ fn replace_in_class(parser: &mut Parser, out: &mut Buffer<u8>) -> Result<(), Too
 /// Where there is no room, what is written of it stays for the caller to take away.
 fn replace_token(byte: u8, parser: &mut Parser, out: &mut Buffer<u8>) -> Result<(), TooLong>
     requires { front parser.old.rest.now ≡ Some byte }
-    ensures { ReplacedToken result parser.old.rest.now parser.new.rest.now out.old.items.items out.new.items.items }
+    ensures { ReplacedToken result parser.old.rest.now parser.new.rest.now out.old out.new }
 {
     if byte == b'[' {
         return replace_in_class(parser, out);
@@ -107,7 +107,7 @@ fn replace_token(byte: u8, parser: &mut Parser, out: &mut Buffer<u8>) -> Result<
 
 /// Puts Unicode properties in the place of the POSIX brackets of the pattern's classes, which match ASCII only.
 pub fn replace_posix_char_classes(regex: &[u8], out: &mut Buffer<u8>) -> Result<(), TooLong>
-    ensures { Appended out.old.items.items (with_properties regex.now) result out.new.items.items }
+    ensures { Appended out.old (with_properties regex.now) result out.new }
 {
     let before = out.len();
     let mut parser = Parser::new(regex);
