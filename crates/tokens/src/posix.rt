@@ -1,11 +1,10 @@
-ghost use Rattle.std.specs.Prelude.{◌≡◌, Some};
+ghost use Rattle.std.specs.Prelude.{◌≡◌, ◌+◌, ◌^◌, ◌<◌, length, Some, None};
 ghost use Rattle.buffer.specs.Appends.{Appended};
-ghost use Rattle.tokens.specs.Cursor.{front};
-ghost use Rattle.tokens.specs.Posix.{Replaced, ReplacedToken, bracket_at, bracket_here, property_of, with_properties};
+ghost use Rattle.tokens.specs.Posix.{WroteFrom, bracket_at, bracket_here, depth_in, left_from, property_of, with_properties};
 
 use crate::class::ClassWalker;
 use crate::parser::{Parser, starts_with, write_token};
-use buffer::{Buffer, TooLong};
+use buffer::{Buffer, Pieces, TooLong};
 
 /// The POSIX brackets that are rewritten.
 #[derive(Clone, Copy)]
@@ -65,43 +64,63 @@ fn bracket_here(walker: &ClassWalker, parser: &Parser) -> Option<PosixClass>
     }
 }
 
-/// Writes the class whose `[` stands here, with properties in the place of brackets, and goes on behind it.
-/// Where there is no room, what is written of it stays for the caller to take away.
-fn replace_in_class(parser: &mut Parser, out: &mut Buffer<u8>) -> Result<(), TooLong>
-    requires { front parser.old.rest.now ≡ Some 91 }
-    ensures { Replaced result parser.old.rest.now parser.new.rest.now out.old out.new }
-{
-    out.push(b'[')?;
-    parser.next();
-    let mut walker = ClassWalker::new();
-    while let Some(byte) = parser.peek() {
-        if let Some(bracket) = bracket_here(&walker, parser) {
-            out.extend(bracket.properties())?;
-            parser.advance(BRACKET_LENGTH);
-            walker.pass_bracket();
-        } else {
-            out.push(byte)?;
-            parser.next();
-            if walker.step(byte) {
-                break;
-            }
-        }
-    }
-    Ok(())
+/// A pattern with properties in the place of its brackets, written piece by piece.
+#[derive(Clone, Copy)]
+struct WithProperties<'a> {
+    parser: Parser<'a>,
+    /// the walk through the class that the parser stands in
+    class: Option<ClassWalker>,
+    ghost shallow: { depth_in class + length parser.rest.now < 2 ^ 64 },
 }
 
-/// Writes the token that stands here, which begins with `byte`, and goes on behind it.
-/// Where there is no room, what is written of it stays for the caller to take away.
-fn replace_token(byte: u8, parser: &mut Parser, out: &mut Buffer<u8>) -> Result<(), TooLong>
-    requires { front parser.old.rest.now ≡ Some byte }
-    ensures { ReplacedToken result parser.old.rest.now parser.new.rest.now out.old out.new }
-{
-    if byte == b'[' {
-        return replace_in_class(parser, out);
+impl WithProperties<'_> {
+    /// Writes what stands here outside of a class.
+    fn write_outside(&mut self, out: &mut Buffer<u8>) -> Option<Result<(), TooLong>>
+        requires { self.old.class ≡ None }
+        ensures { WroteFrom self.old.class self.old.parser.rest.now self.new.class self.new.parser.rest.now result out.old out.new }
+    {
+        if self.parser.peek()? == b'[' {
+            self.parser.next();
+            self.class = Some(ClassWalker::new());
+            return Some(out.push(b'['));
+        }
+        let token = self.parser.token()?;
+        Some(write_token(token, out))
     }
-    match parser.token() {
-        Some(token) => write_token(token, out),
-        None => Ok(()),
+
+    /// Writes what stands here in a class.
+    fn write_inside(
+        &mut self,
+        mut walker: ClassWalker,
+        out: &mut Buffer<u8>,
+    ) -> Option<Result<(), TooLong>>
+        requires { self.old.class ≡ Some walker }
+        ensures { WroteFrom self.old.class self.old.parser.rest.now self.new.class self.new.parser.rest.now result out.old out.new }
+    {
+        let byte = self.parser.peek()?;
+        if let Some(bracket) = bracket_here(&walker, &self.parser) {
+            self.parser.advance(BRACKET_LENGTH);
+            walker.pass_bracket();
+            self.class = Some(walker);
+            return Some(out.extend(bracket.properties()));
+        }
+        self.parser.next();
+        let closed = walker.step(byte);
+        self.class = if closed { None } else { Some(walker) };
+        Some(out.push(byte))
+    }
+}
+
+impl Pieces<u8> for WithProperties<'_> {
+    ghost left = { λ s. left_from s.class s.parser.rest.now };
+
+    ghost size = { λ s. length s.parser.rest.now };
+
+    fn write_next(&mut self, out: &mut Buffer<u8>) -> Option<Result<(), TooLong>> {
+        match self.class {
+            Some(walker) => self.write_inside(walker, out),
+            None => self.write_outside(out),
+        }
     }
 }
 
@@ -109,13 +128,8 @@ fn replace_token(byte: u8, parser: &mut Parser, out: &mut Buffer<u8>) -> Result<
 pub fn replace_posix_char_classes(regex: &[u8], out: &mut Buffer<u8>) -> Result<(), TooLong>
     ensures { Appended out.old (with_properties regex.now) result out.new }
 {
-    let before = out.len();
-    let mut parser = Parser::new(regex);
-    while let Some(byte) = parser.peek() {
-        if let Err(refusal) = replace_token(byte, &mut parser, out) {
-            out.truncate(before);
-            return Err(refusal);
-        }
-    }
-    Ok(())
+    out.write_pieces(WithProperties {
+        parser: Parser::new(regex),
+        class: None,
+    })
 }
