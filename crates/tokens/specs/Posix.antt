@@ -1,6 +1,6 @@
 -- POSIX brackets inside a character class.
 use Rattle.std.specs.Prelude.{ℕ, Bool, true, false, cond, not, ◌&&◌, List, [], ◌∷◌, ◌++◌, length, take, drop, Some, None, codes, Option, Result, ◌==◌}
-use Rattle.std.specs.List.{flat_map}
+use Rattle.std.specs.List.{find, flat_map}
 use Rattle.buffer.specs.Appends.{WroteNext}
 use Rattle.tokens.specs.declared.class.ClassState.{ClassState}
 use Rattle.tokens.specs.declared.class.ClassState.TheVariants.{Start, Negated, Inside, Escaped}
@@ -28,8 +28,7 @@ property_of Upper = 92 ∷ codes "p{Lu}"
 property_of Digit = 92 ∷ codes "p{Nd}"
 
 abbrev pub first_of : List PosixClass → List ℕ → Option PosixClass
-first_of [] bs = None
-first_of (p ∷ ps) bs = cond (starts (bracket_of p) bs) (Some p) (first_of ps bs)
+first_of ps bs = find (λ p. starts (bracket_of p) bs) ps
 
 abbrev pub posix_classes : List PosixClass
 posix_classes = Alpha ∷ Alnum ∷ Lower ∷ Upper ∷ Digit ∷ []

@@ -1,9 +1,10 @@
 ghost use Rattle.std.specs.Prelude.{◌≡◌, ◌+◌, ◌^◌, ◌<◌, length, Some, None};
 ghost use Rattle.buffer.specs.Appends.{Appended};
-ghost use Rattle.tokens.specs.Posix.{WroteFrom, bracket_at, bracket_here, depth_in, left_from, property_of, with_properties};
+ghost use Rattle.tokens.specs.Starts.{starts};
+ghost use Rattle.tokens.specs.Posix.{WroteFrom, bracket_at, bracket_here, bracket_of, depth_in, first_of, left_from, property_of, with_properties};
 
 use crate::class::ClassWalker;
-use crate::parser::{Parser, starts_with, write_token};
+use crate::parser::{Parser, write_token};
 use buffer::{Buffer, Pieces, TooLong};
 
 /// The POSIX brackets that are rewritten.
@@ -20,23 +21,44 @@ pub enum PosixClass {
 const BRACKET_LENGTH: usize = 9;
 
 impl PosixClass {
+    const ALL: [PosixClass; 5] = [
+        PosixClass::Alpha,
+        PosixClass::Alnum,
+        PosixClass::Lower,
+        PosixClass::Upper,
+        PosixClass::Digit,
+    ];
+
+    fn bracket(self) -> &'static [u8]
+        ensures { result.now ≡ bracket_of self }
+    {
+        match self {
+            PosixClass::Alpha => b"[:alpha:]",
+            PosixClass::Alnum => b"[:alnum:]",
+            PosixClass::Lower => b"[:lower:]",
+            PosixClass::Upper => b"[:upper:]",
+            PosixClass::Digit => b"[:digit:]",
+        }
+    }
+
+    fn stands_at(self, text: &[u8]) -> bool
+        ensures { result ≡ starts (bracket_of self) text.now }
+    {
+        text.starts_with(self.bracket())
+    }
+
+    /// The first of the brackets that stands at the front of `text`.
+    fn first_of(classes: &[PosixClass], text: &[u8]) -> Option<PosixClass>
+        ensures { result ≡ first_of classes.now text.now }
+    {
+        classes.iter().copied().find(|class| class.stands_at(text))
+    }
+
     /// The bracket that stands at the front of `text`.
     fn at_front(text: &[u8]) -> Option<PosixClass>
         ensures { result ≡ bracket_at text.now }
     {
-        if starts_with(text, b"[:alpha:]") {
-            Some(PosixClass::Alpha)
-        } else if starts_with(text, b"[:alnum:]") {
-            Some(PosixClass::Alnum)
-        } else if starts_with(text, b"[:lower:]") {
-            Some(PosixClass::Lower)
-        } else if starts_with(text, b"[:upper:]") {
-            Some(PosixClass::Upper)
-        } else if starts_with(text, b"[:digit:]") {
-            Some(PosixClass::Digit)
-        } else {
-            None
-        }
+        PosixClass::first_of(&PosixClass::ALL, text)
     }
 
     /// The Unicode properties that match what the bracket is to match.
