@@ -1,7 +1,7 @@
 ghost use Rattle.std.specs.Prelude.{◌≡◌, ℕ, ◌<◌, false, length, Some, List, Option};
 ghost use Rattle.std.specs.Iterator.{YieldsFirstBy, item_count};
 ghost use Rattle.buffer.specs.Appends.{Appended};
-ghost use Rattle.backrefs.specs.Backrefs.{digit, has_backref, is_meta, literal, literally, pairs, placeholder, put, substituted, text_of};
+ghost use Rattle.backrefs.specs.Backrefs.{digit, has_backref, is_backref, is_meta, literal, literally, pairs, placeholder, put, substituted, text_of};
 ghost use Rattle.backrefs.specs.Pairs.{meant_pair};
 
 use buffer::{Buffer, Pieces, TooLong};
@@ -12,6 +12,15 @@ enum Pair {
     /// a backslash and the byte that it escapes
     Escaped(u8),
     Single(u8),
+}
+
+impl Pair {
+    /// A backslash that no backslash escapes, before a digit.
+    fn is_backref(self) -> bool
+        ensures { result ≡ is_backref (meant_pair self) }
+    {
+        matches!(self, Pair::Escaped(b'0'..=b'9'))
+    }
 }
 
 /// The pairs of what is left of a pattern.
@@ -45,7 +54,7 @@ impl Iterator for Pairs<'_> {
 pub fn has_backrefs(regex: &[u8]) -> bool
     ensures { result ≡ has_backref regex.now }
 {
-    Pairs(regex).any(|pair| matches!(pair, Pair::Escaped(b'0'..=b'9')))
+    Pairs(regex).any(Pair::is_backref)
 }
 
 /// What is put in for each backreference.
