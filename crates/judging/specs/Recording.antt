@@ -5,9 +5,10 @@ use Rattle.judging.specs.declared.range.TextRange.{TextRange}
 use Rattle.judging.specs.declared.recorded.Entry.{Entry}
 use Rattle.judging.specs.declared.recording.Untaken.{Untaken}
 use Rattle.judging.specs.declared.recording.Untaken.TheVariants.{Outside, TooMany}
+use Rattle.judging.specs.Entries.{SoundBelow}
 use Rattle.judging.specs.Judging.{There, number_of}
 use Rattle.judging.specs.Ranges.{lies, text_at, nowhere}
-use Rattle.judging.specs.Records.{SoundBelow, recorded, recorded_number}
+use Rattle.judging.specs.Records.{recorded, recorded_number}
 
 -- the entry for a text; none for the fault 255, which a text without an entry has
 abbrev pub entry_for : ℕ → TextRange → List Entry
@@ -25,6 +26,11 @@ TakenDown number whole texts (Ok _) es = ThereBelow whole texts (length texts) �
 TakenDown number whole texts (Err (Outside n)) es =
     (n < length texts) × ThereBelow whole texts n × (lies (length whole) (slice_index_or texts n nowhere) ≡ false) × (es ≡ [])
 TakenDown number whole texts (Err TooMany) es = (65536 < length (entries_for number whole texts)) × (es ≡ [])
+
+-- the entries, but none of them where a verdict could not be taken down
+abbrev pub only_taken : {V : Type 0} → Result V Untaken → List Entry → List Entry
+only_taken (Ok _) es = es
+only_taken (Err _) es = []
 
 -- a record can be made of these entries, and on each of the texts it has the number that the engine has
 abbrev pub Agreed : {V E : Type 0} → (List ℕ → ℕ) → List ℕ → List TextRange → Result V E → List Entry → Type 0

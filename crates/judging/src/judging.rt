@@ -23,12 +23,10 @@ pub fn judge_all<E: Engine>(
     ensures kept { (t : List ℕ) → E.verdict engine.new t ≡ E.verdict engine.old t }
 {
     for (number, range) in texts.iter().enumerate() {
-        let Some(text) = range.of(whole) else {
-            return Err(Refused::Outside { number });
-        };
-        if let Err(fault) = engine.judge(text) {
-            return Err(Refused::Faulty { number, fault });
-        }
+        let text = range.of(whole).ok_or(Refused::Outside { number })?;
+        engine
+            .judge(text)
+            .map_err(|fault| Refused::Faulty { number, fault })?;
     }
     Ok(())
 }
@@ -38,8 +36,5 @@ pub fn judge_number<E: Engine>(engine: &mut E, text: &[u8]) -> u8
     ensures number { result ≡ number_of E.Fault.numbered (E.verdict engine.old text.now) }
     ensures kept { (t : List ℕ) → E.verdict engine.new t ≡ E.verdict engine.old t }
 {
-    match engine.judge(text) {
-        Ok(()) => 0,
-        Err(fault) => fault.number(),
-    }
+    engine.judge(text).err().map_or(0, Numbered::number)
 }

@@ -1,11 +1,13 @@
 ghost use Rattle.std.specs.Prelude.{◌≡◌};
 ghost use Rattle.std.specs.Result.{result_err};
-ghost use Rattle.std.specs.Str.{bytes_eq};
+ghost use Rattle.std.specs.List.{find};
+ghost use Rattle.std.specs.Option.{option_copied};
 ghost use Rattle.judging.specs.Records.{Made, RecordLaws, fault_of, is_text, recorded, recorded_number};
 ghost use Rattle.std.proofs.Common.{rules};
 
 use crate::range::TextRange;
 use engine::{Engine, Numbered};
+use std::num::NonZeroU8;
 
 /// What is recorded of one text.
 #[derive(Clone, Copy, PartialEq, Eq, Debug)]
@@ -18,7 +20,7 @@ pub struct Entry {
 /// A fault that was recorded, or that nothing was.
 #[derive(Clone, Copy, PartialEq, Eq, Debug)]
 pub struct RecordedFault {
-    number: u8,
+    number: NonZeroU8,
 }
 
 /// The number of the fault of a text that is not recorded.
@@ -30,10 +32,19 @@ impl Numbered for RecordedFault {
     ghost ranged = { Prim.search rules };
 
     fn number(self) -> u8 {
-        if self.number == 0 {
-            return UNRECORDED;
+        self.number.get()
+    }
+}
+
+impl RecordedFault {
+    /// What a verdict's number says.
+    fn told(verdict: u8) -> Result<(), Self>
+        ensures { result_err result ≡ fault_of verdict }
+    {
+        match NonZeroU8::new(verdict) {
+            None => Ok(()),
+            Some(number) => Err(RecordedFault { number }),
         }
-        self.number
     }
 }
 
@@ -53,18 +64,13 @@ pub struct RecordedEngine<'a> {
     entries: &'a [Entry],
 }
 
-/// A lemma: it does nothing, and its caller has the laws of records to hand on.
-fn laws_of_records()
-    ensures { RecordLaws }
-{}
-
 impl<'a> RecordedEngine<'a> {
     /// Refuses the first entry whose text does not lie in the whole or whose verdict is none.
+    #[tactic(auto, using(crate::proofs::RecordLaws::record_laws))]
     pub fn new(whole: &'a [u8], entries: &'a [Entry]) -> Result<Self, RecordRefusal>
         ensures made { Made whole.now entries.now result }
         ensures laws { RecordLaws }
     {
-        laws_of_records();
         for (number, entry) in entries.iter().enumerate() {
             if !entry.text.lies_in(whole.len()) {
                 return Err(RecordRefusal::Outside { entry: number });
@@ -77,41 +83,20 @@ impl<'a> RecordedEngine<'a> {
     }
 }
 
-fn is_same(a: &[u8], b: &[u8]) -> bool
-    ensures { result ≡ bytes_eq a.now b.now }
-{
-    a == b
-}
-
 /// The range lies in `whole`, and this text stands there.
 fn is_text(whole: &[u8], range: TextRange, text: &[u8]) -> bool
     ensures { result ≡ is_text whole.now text.now range }
 {
-    match range.of(whole) {
-        Some(part) => is_same(part, text),
-        None => false,
-    }
+    range.of(whole) == Some(text)
 }
 
-fn answer(verdict: u8) -> Result<(), RecordedFault>
-    ensures { result_err result ≡ fault_of verdict }
+/// The first entry that has this text.
+fn find_entry<'a>(whole: &[u8], entries: &'a [Entry], text: &[u8]) -> Option<&'a Entry>
+    ensures { option_copied result ≡ find (λ entry. is_text whole.now text.now entry.text) entries.now }
 {
-    if verdict == 0 {
-        return Ok(());
-    }
-    Err(RecordedFault { number: verdict })
-}
-
-/// The verdict of the first entry that has this text.
-fn look_up(whole: &[u8], entries: &[Entry], text: &[u8]) -> Result<(), RecordedFault>
-    ensures { result_err result ≡ recorded whole.now entries.now text.now }
-{
-    for entry in entries {
-        if is_text(whole, entry.text, text) {
-            return answer(entry.verdict);
-        }
-    }
-    Err(RecordedFault { number: UNRECORDED })
+    entries
+        .iter()
+        .find(|entry| is_text(whole, entry.text, text))
 }
 
 impl<'a> Engine for RecordedEngine<'a> {
@@ -119,7 +104,9 @@ impl<'a> Engine for RecordedEngine<'a> {
 
     ghost verdict = { λ m. recorded m.whole.now m.entries.now };
 
+    #[tactic(auto, using(crate::proofs::RecordLaws::found_first))]
     fn judge(&mut self, text: &[u8]) -> Result<(), RecordedFault> {
-        look_up(self.whole, self.entries, text)
+        let found = find_entry(self.whole, self.entries, text);
+        RecordedFault::told(found.map_or(UNRECORDED, |entry| entry.verdict))
     }
 }

@@ -2,7 +2,7 @@ use Rattle.std.proofs.Common.{◌≡◌, ℕ, List, [], drop, vec_items}
 use Rattle.buffer.proofs.Writes.{Writing}
 use Rattle.judging.specs.Judging.{number_of}
 use Rattle.judging.specs.Recording.{ThereBelow, entries_for}
-use Rattle.judging.proofs.recording.record_verdicts.Given as goal
+use Rattle.judging.proofs.recording.take_all.Given as goal
 
 -- the texts before this one are taken down, and the engine's verdicts are what they were
 abbrev pub invariant-loop-number : goal.invariant-loop-number
