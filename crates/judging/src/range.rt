@@ -1,4 +1,5 @@
 ghost use Rattle.std.specs.Prelude.{◌≡◌, true, false, length, MatchOption};
+ghost use Rattle.judging.specs.Records.{is_text};
 ghost use Rattle.judging.specs.Ranges.{lies, text_at};
 
 /// A text that lies in another: `length` bytes from the one at `start`.
@@ -21,5 +22,12 @@ impl TextRange {
         ensures { MatchOption result (lies (length whole.now) self ≡ false) (λ t. (lies (length whole.now) self ≡ true) × (t.now ≡ text_at whole.now self)) }
     {
         whole.get(self.start..)?.get(..self.length)
+    }
+
+    /// It lies in `whole`, and this text stands there.
+    pub(crate) fn is_at(self, text: &[u8], whole: &[u8]) -> bool
+        ensures { result ≡ is_text whole.now text.now self }
+    {
+        self.of(whole) == Some(text)
     }
 }

@@ -1,8 +1,5 @@
-ghost use Rattle.std.specs.Prelude.{◌≡◌};
-ghost use Rattle.std.specs.Result.{result_err};
-ghost use Rattle.std.specs.List.{find};
-ghost use Rattle.std.specs.Option.{option_copied};
-ghost use Rattle.judging.specs.Records.{Made, RecordLaws, fault_of, is_text, recorded, recorded_number};
+ghost use Rattle.std.specs.Prelude.{◌≡◌, length};
+ghost use Rattle.judging.specs.Entries.{SoundBelow};
 ghost use Rattle.std.proofs.Common.{rules};
 
 use crate::range::TextRange;
@@ -27,6 +24,8 @@ pub struct RecordedFault {
 pub const UNRECORDED: u8 = 255;
 
 impl Numbered for RecordedFault {
+    ghost use Rattle.judging.specs.Records.{recorded_number};
+
     ghost numbered = { recorded_number };
 
     ghost ranged = { Prim.search rules };
@@ -37,6 +36,9 @@ impl Numbered for RecordedFault {
 }
 
 impl RecordedFault {
+    ghost use Rattle.std.specs.Result.{result_err};
+    ghost use Rattle.judging.specs.Records.{fault_of};
+
     /// What a verdict's number says.
     fn told(verdict: u8) -> Result<(), Self>
         ensures { result_err result ≡ fault_of verdict }
@@ -62,9 +64,14 @@ pub enum RecordRefusal {
 pub struct RecordedEngine<'a> {
     whole: &'a [u8],
     entries: &'a [Entry],
+    ghost sound: { SoundBelow whole.now entries.now (length entries.now) },
 }
 
 impl<'a> RecordedEngine<'a> {
+    ghost use Rattle.std.specs.List.{find};
+    ghost use Rattle.std.specs.Option.{option_copied};
+    ghost use Rattle.judging.specs.Records.{Made, RecordLaws, is_text};
+
     /// Refuses the first entry whose text does not lie in the whole or whose verdict is none.
     #[tactic(auto, using(crate::proofs::RecordLaws::record_laws))]
     pub fn new(whole: &'a [u8], entries: &'a [Entry]) -> Result<Self, RecordRefusal>
@@ -81,32 +88,27 @@ impl<'a> RecordedEngine<'a> {
         }
         Ok(RecordedEngine { whole, entries })
     }
-}
 
-/// The range lies in `whole`, and this text stands there.
-fn is_text(whole: &[u8], range: TextRange, text: &[u8]) -> bool
-    ensures { result ≡ is_text whole.now text.now range }
-{
-    range.of(whole) == Some(text)
-}
-
-/// The first entry that has this text.
-fn find_entry<'a>(whole: &[u8], entries: &'a [Entry], text: &[u8]) -> Option<&'a Entry>
-    ensures { option_copied result ≡ find (λ entry. is_text whole.now text.now entry.text) entries.now }
-{
-    entries
-        .iter()
-        .find(|entry| is_text(whole, entry.text, text))
+    /// The first entry that has this text.
+    fn entry_of(&self, text: &[u8]) -> Option<&Entry>
+        ensures { option_copied result ≡ find (λ entry. is_text self.now.whole.now text.now entry.text) self.now.entries.now }
+    {
+        self.entries
+            .iter()
+            .find(|entry| entry.text.is_at(text, self.whole))
+    }
 }
 
 impl<'a> Engine for RecordedEngine<'a> {
+    ghost use Rattle.judging.specs.Records.{recorded};
+
     type Fault = RecordedFault;
 
     ghost verdict = { λ m. recorded m.whole.now m.entries.now };
 
     #[tactic(auto, using(crate::proofs::RecordLaws::found_first))]
     fn judge(&mut self, text: &[u8]) -> Result<(), RecordedFault> {
-        let found = find_entry(self.whole, self.entries, text);
+        let found = self.entry_of(text);
         RecordedFault::told(found.map_or(UNRECORDED, |entry| entry.verdict))
     }
 }
