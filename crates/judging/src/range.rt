@@ -1,5 +1,4 @@
 ghost use Rattle.std.specs.Prelude.{◌≡◌, true, false, length, MatchOption};
-ghost use Rattle.judging.specs.Records.{is_text};
 ghost use Rattle.judging.specs.Ranges.{lies, text_at};
 
 /// A text that lies in another: `length` bytes from the one at `start`.
@@ -24,10 +23,11 @@ impl TextRange {
         whole.get(self.start..)?.get(..self.length)
     }
 
-    /// It lies in `whole`, and this text stands there.
-    pub(crate) fn is_at(self, text: &[u8], whole: &[u8]) -> bool
-        ensures { result ≡ is_text whole.now text.now self }
+    /// The bytes, in a whole that it lies in.
+    pub(crate) fn within(self, whole: &[u8]) -> &[u8]
+        requires { lies (length whole.now) self ≡ true }
+        ensures { result.now ≡ text_at whole.now self }
     {
-        self.of(whole) == Some(text)
+        &whole[self.start..self.start + self.length]
     }
 }

@@ -1,5 +1,6 @@
-ghost use Rattle.std.specs.Prelude.{◌≡◌, length};
-ghost use Rattle.judging.specs.Entries.{SoundBelow};
+ghost use Rattle.std.specs.Prelude.{◌≡◌, true, length, All};
+ghost use Rattle.std.proofs.Props.{props};
+ghost use Rattle.judging.specs.Entries.{Sound};
 ghost use Rattle.std.proofs.Common.{rules};
 
 use crate::range::TextRange;
@@ -64,7 +65,7 @@ pub enum RecordRefusal {
 pub struct RecordedEngine<'a> {
     whole: &'a [u8],
     entries: &'a [Entry],
-    ghost sound: { SoundBelow whole.now entries.now (length entries.now) },
+    ghost sound: { All (Sound whole.now) entries.now } by { Prim.hlevel props },
 }
 
 impl<'a> RecordedEngine<'a> {
@@ -93,9 +94,13 @@ impl<'a> RecordedEngine<'a> {
     fn entry_of(&self, text: &[u8]) -> Option<&Entry>
         ensures { option_copied result ≡ find (λ entry. is_text self.now.whole.now text.now entry.text) self.now.entries.now }
     {
-        self.entries
-            .iter()
-            .find(|entry| entry.text.is_at(text, self.whole))
+        let whole = self.whole;
+        self.entries.iter().find(
+            |entry| -> bool
+                requires { Sound whole.now entry.now.now }
+                ensures { result ≡ is_text whole.entry.now text.entry.now entry.now.now.text }
+            { entry.text.within(whole) == text },
+        )
     }
 }
 
