@@ -1,5 +1,6 @@
 -- Taking down the verdicts of an engine, of which `number` gives the fault number of each text, or 0.
-use Rattle.std.specs.Prelude.{◌≡◌, ℕ, ◌<◌, false, cond, List, [], ◌∷◌, length, Ok, Err, Result, ◌==◌, slice_index_or}
+use Rattle.std.specs.Prelude.{◌≡◌, ℕ, ◌<◌, false, cond, List, [], ◌∷◌, ◌++◌, length, Ok, Err, codes, Result, ◌==◌, slice_index_or}
+use Rattle.std.specs.Fmt.{decimal}
 use Rattle.std.specs.List.{flat_map}
 use Rattle.judging.specs.declared.range.TextRange.{TextRange}
 use Rattle.judging.specs.declared.recorded.Entry.{Entry}
@@ -37,3 +38,8 @@ abbrev pub Agreed : {V E : Type 0} → (List ℕ → ℕ) → List ℕ → List 
 Agreed number whole texts (Ok _) es = SoundBelow whole es (length es)
     × ((k : ℕ) → k < length texts → number_of recorded_number (recorded whole es (text_at whole (slice_index_or texts k nowhere))) ≡ number (text_at whole (slice_index_or texts k nowhere)))
 Agreed number whole texts (Err _) es = Unit {0}
+
+-- in words
+abbrev pub untaken_text : Untaken → List ℕ
+untaken_text (Outside n) = codes "text " ++ decimal n ++ codes " does not lie in the whole"
+untaken_text TooMany = codes "there are too many entries"

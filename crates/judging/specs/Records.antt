@@ -1,7 +1,8 @@
 -- Recorded verdicts.
-use Rattle.std.specs.Prelude.{◌≡◌, ℕ, zero, suc, ◌<◌, Bool, true, false, cond, List, [], ◌∷◌, length, get_or, Some, None, Ok, Err, Option, Result, nat_lt}
+use Rattle.std.specs.Prelude.{◌≡◌, ℕ, zero, suc, ◌<◌, Bool, true, false, cond, List, [], ◌∷◌, ◌++◌, length, get_or, Some, None, Ok, Err, codes, Option, Result, nat_lt}
 use Rattle.std.proofs.Math.Nat.{zero-lt-suc}
 use Rattle.std.specs.Int.NonZero.{non_zero_u8_get}
+use Rattle.std.specs.Fmt.{decimal}
 use Rattle.std.specs.Str.{bytes_eq}
 use Rattle.judging.specs.declared.range.TextRange.{TextRange}
 use Rattle.judging.specs.declared.recorded.Entry.{Entry}
@@ -15,6 +16,10 @@ use Rattle.judging.specs.Ranges.{lies, text_at}
 -- the number of a fault of the record; a number that no fault has counts as unrecorded
 abbrev pub recorded_number : RecordedFault → ℕ
 recorded_number f = cond (nat_lt 255 (non_zero_u8_get f.number)) 255 (non_zero_u8_get f.number)
+
+-- the fault in words
+abbrev pub recorded_text : RecordedFault → List ℕ
+recorded_text f = codes "the fault of number " ++ decimal (non_zero_u8_get f.number)
 
 -- the fault of a number, which is not 0
 unfoldable pub fault_number : ℕ → RecordedFault
@@ -44,6 +49,11 @@ Made whole es (Ok m) = (m.whole.now ≡ whole) × (m.entries.now ≡ es) × Soun
 Made whole es (Err (Outside n)) = (n < length es) × SoundBelow whole es n × (lies (length whole) (get_or es n blank).text ≡ false)
 Made whole es (Err (NoVerdict n)) =
     (n < length es) × SoundBelow whole es n × (lies (length whole) (get_or es n blank).text ≡ true) × ((get_or es n blank).verdict ≡ 255)
+
+-- the refusal in words
+abbrev pub refusal_text : RecordRefusal → List ℕ
+refusal_text (Outside n) = codes "the text of entry " ++ decimal n ++ codes " does not lie in the whole"
+refusal_text (NoVerdict n) = codes "entry " ++ decimal n ++ codes " has no verdict"
 
 -- What holds of records, in other words than those of the function.
 pub record RecordLaws : Type 0 where

@@ -1,8 +1,10 @@
 ghost use Rattle.std.specs.Prelude.{◌≡◌, ℕ, ◌≤◌, List};
-ghost use Rattle.judging.specs.Judging.{Judged, number_of};
+ghost use Rattle.judging.specs.Judging.{Judged, number_of, refused_text};
 
 use crate::range::TextRange;
 use engine::{Engine, Numbered};
+use std::error::Error;
+use std::fmt;
 
 /// Why a list of texts is not fine.
 #[derive(Clone, Copy, PartialEq, Eq, Debug)]
@@ -12,6 +14,19 @@ pub enum Refused<F> {
     /// the engine finds this fault in the text of this number
     Faulty { number: usize, fault: F },
 }
+
+impl<F: fmt::Display> fmt::Display for Refused<F> {
+    ghost output = { refused_text F.output };
+
+    fn fmt<W: fmt::Write>(&self, f: &mut fmt::Formatter<W>) -> fmt::Result {
+        match self {
+            Refused::Outside { number } => write!(f, "text {number} does not lie in the whole"),
+            Refused::Faulty { number, fault } => write!(f, "text {number}: {fault}"),
+        }
+    }
+}
+
+impl<F: Error + Copy> Error for Refused<F> {}
 
 /// Judges texts in their order: all are fine, or the first that is not is told, with its fault.
 pub fn judge_all<E: Engine>(

@@ -5,6 +5,8 @@ ghost use Rattle.std.proofs.Common.{rules};
 
 use crate::range::TextRange;
 use engine::{Engine, Numbered};
+use std::error::Error;
+use std::fmt;
 use std::num::NonZeroU8;
 
 /// What is recorded of one text.
@@ -51,6 +53,20 @@ impl RecordedFault {
     }
 }
 
+impl fmt::Display for RecordedFault {
+    ghost use Rattle.std.specs.Prelude.{Some};
+    ghost use Rattle.judging.specs.Records.{recorded_text};
+
+    ghost output = { λ fault. Some (recorded_text fault) };
+
+    fn fmt<W: fmt::Write>(&self, f: &mut fmt::Formatter<W>) -> fmt::Result {
+        let number = self.number.get();
+        write!(f, "the fault of number {number}")
+    }
+}
+
+impl Error for RecordedFault {}
+
 /// Why entries are no record.
 #[derive(Clone, Copy, PartialEq, Eq, Debug)]
 pub enum RecordRefusal {
@@ -59,6 +75,24 @@ pub enum RecordRefusal {
     /// the verdict of this entry is 255, which no entry can say
     NoVerdict { entry: usize },
 }
+
+impl fmt::Display for RecordRefusal {
+    ghost use Rattle.std.specs.Prelude.{Some};
+    ghost use Rattle.judging.specs.Records.{refusal_text};
+
+    ghost output = { λ refusal. Some (refusal_text refusal) };
+
+    fn fmt<W: fmt::Write>(&self, f: &mut fmt::Formatter<W>) -> fmt::Result {
+        match self {
+            RecordRefusal::Outside { entry } => {
+                write!(f, "the text of entry {entry} does not lie in the whole")
+            }
+            RecordRefusal::NoVerdict { entry } => write!(f, "entry {entry} has no verdict"),
+        }
+    }
+}
+
+impl Error for RecordRefusal {}
 
 /// Verdicts that were taken down, each for a text in one whole.
 #[derive(Clone, Copy)]

@@ -1,7 +1,7 @@
-ghost use Rattle.std.specs.Prelude.{◌≡◌, ℕ, List, []};
+ghost use Rattle.std.specs.Prelude.{◌≡◌, ℕ, List, [], Some};
 ghost use Rattle.buffer.specs.Appends.{Appended};
 ghost use Rattle.judging.specs.Judging.{number_of};
-ghost use Rattle.judging.specs.Recording.{Agreed, TakenDown, entry_for, only_taken};
+ghost use Rattle.judging.specs.Recording.{Agreed, TakenDown, entry_for, only_taken, untaken_text};
 ghost use Rattle.judging.specs.declared.recording.Untaken.TheVariants.{TooMany};
 
 use crate::judging::judge_number;
@@ -9,6 +9,8 @@ use crate::range::TextRange;
 use crate::recorded::{Entry, UNRECORDED};
 use buffer::{Buffer, TooLong};
 use engine::Engine;
+use std::error::Error;
+use std::fmt;
 
 /// Why verdicts are not taken down.
 #[derive(Clone, Copy, PartialEq, Eq, Debug)]
@@ -18,6 +20,19 @@ pub enum Untaken {
     /// there are more entries than a buffer holds
     TooMany,
 }
+
+impl fmt::Display for Untaken {
+    ghost output = { λ untaken. Some (untaken_text untaken) };
+
+    fn fmt<W: fmt::Write>(&self, f: &mut fmt::Formatter<W>) -> fmt::Result {
+        match self {
+            Untaken::Outside { number } => write!(f, "text {number} does not lie in the whole"),
+            Untaken::TooMany => write!(f, "there are too many entries"),
+        }
+    }
+}
+
+impl Error for Untaken {}
 
 impl From<TooLong> for Untaken {
     ghost from_gives = { λ _ untaken. untaken ≡ TooMany };
