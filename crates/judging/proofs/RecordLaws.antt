@@ -1,26 +1,11 @@
 -- Laws of recorded verdicts.
-use Rattle.std.proofs.Common.{◌≡◌, ℕ, zero, suc, ◌<◌, true, false, List, [], ◌∷◌, length, get_or, None, Some, Option, Bool, cond, refl, ap, ◌∙◌, subst, arith}
-use Rattle.std.proofs.Math.Nat.{zero-lt-suc}
-use Rattle.std.specs.Coded.{le_prop}
-use Rattle.std.specs.Int.NonZero.{non_zero_u8_get}
-use Rattle.std.specs.declared.num.NonZeroU8.{NonZeroU8}
+use Rattle.std.proofs.Common.{◌≡◌, ℕ, zero, suc, ◌<◌, true, false, List, [], ◌∷◌, length, get_or, None, Some, Option, Bool, cond, refl, ◌∙◌, arith}
 use Rattle.std.specs.List.{find}
 use Rattle.std.proofs.lemmas.Bool.{cond-true, cond-false}
 use Rattle.judging.specs.declared.recorded.Entry.{Entry}
 use Rattle.judging.specs.declared.recorded.RecordedFault.{RecordedFault}
 use Rattle.judging.specs.Entries.{blank}
-use Rattle.judging.specs.Records.{RecordLaws, recorded, fault_number, fault_of, is_text, unrecorded}
-
-abbrev made : (n : ℕ) → 0 < n → NonZeroU8
-made n ok = record { value = n; ok = ok }
-
--- there is one fault of each number
-pub fault_is : (x : NonZeroU8) (n : ℕ) → non_zero_u8_get x ≡ n → Some (record { number = x }) ≡ fault_of n
-unfolding fault_number
-fault_is x zero e = absurd (omega (arith, x.ok, e))
-fault_is x (suc n) e = ap (λ (y : NonZeroU8). Some (record { number = y })) (same x.value (suc n) x.ok (zero-lt-suc n) e) where
-  same : (m n : ℕ) (p : 0 < m) (q : 0 < n) → m ≡ n → made m p ≡ made n q
-  same m n p q e = subst (λ (k : ℕ). (r : 0 < k) → made m p ≡ made k r) e (λ r. ap (made m) (le_prop p r)) q
+use Rattle.judging.specs.Records.{RecordLaws, recorded, fault_of, is_text, unrecorded}
 
 pub decides : (whole : List ℕ) (es : List Entry) (t : List ℕ) (k : ℕ) → k < length es → is_text whole t (get_or es k blank).text ≡ true →
     ((j : ℕ) → j < k → is_text whole t (get_or es j blank).text ≡ false) → recorded whole es t ≡ fault_of (get_or es k blank).verdict
