@@ -46,7 +46,7 @@ pub fn judge_all<E: Engine>(
     Ok(())
 }
 
-/// The number of a text's fault, or 0 if it is fine.
+/// The number of a text's fault, or 0 if it is fine, as a record has it.
 pub fn judge_number<E: Engine>(engine: &mut E, text: &[u8]) -> u8
     ensures number { result ≡ number_of E.Fault.numbered (E.verdict engine.old text.now) }
     ensures kept { (t : List ℕ) → E.verdict engine.new t ≡ E.verdict engine.old t }

@@ -13,7 +13,7 @@ use std::num::NonZeroU8;
 #[derive(Clone, Copy, PartialEq, Eq, Debug)]
 pub struct Entry {
     pub text: TextRange,
-    /// 0 is fine; 1 to 254 are faults
+    /// 0 is fine; 1 to 254 are faults: a byte, as records are kept outside
     pub verdict: u8,
 }
 

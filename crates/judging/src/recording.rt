@@ -38,7 +38,7 @@ impl From<TooLong> for Untaken {
     ghost from_gives = { λ _ untaken. untaken ≡ TooMany };
 
     fn from(_: TooLong) -> Self {
-        Untaken::TooMany
+        Self::TooMany
     }
 }
 
