@@ -1,12 +1,13 @@
+-- The laws of the bracket engine's rule, together.
+use Rattle.engine.specs.Brackets.{BracketLaws}
 use Rattle.engine.specs.Units.{units}
 use Rattle.engine.proofs.BracketExamples.{bracket_examples}
 use Rattle.engine.proofs.BracketLaws.{ruled, fine_parts}
 use Rattle.engine.proofs.Units.{units_joined}
 use Rattle.engine.proofs.UnitsAppend.{fine_before}
-use Rattle.engine.proofs.bracket.laws_of_brackets.Goals as goal
 
-pub returns : goal.returns
-returns c = record {
+pub bracket_laws : BracketLaws
+bracket_laws = record {
   joined_units = units_joined;
   rule = ruled;
   before = fine_before;
