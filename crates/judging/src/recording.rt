@@ -46,10 +46,8 @@ impl From<TooLong> for Untaken {
 fn take_down(text: TextRange, verdict: u8, entries: &mut Buffer<Entry>) -> Result<(), TooLong>
     ensures { Appended entries.old (entry_for verdict text) result entries.new }
 {
-    if verdict == UNRECORDED {
-        return Ok(());
-    }
-    entries.push(Entry { text, verdict })
+    let entry = (verdict != UNRECORDED).then_some(Entry { text, verdict });
+    entries.extend(entry.as_slice())
 }
 
 /// Takes down the verdicts of texts one after another, until one cannot be had.
@@ -59,8 +57,8 @@ fn take_all<E: Engine>(
     texts: &[TextRange],
     entries: &mut Buffer<Entry>,
 ) -> Result<(), Untaken>
-    requires { entries.old.items.items ≡ [] }
-    ensures taken { TakenDown (λ t. number_of E.Fault.numbered (E.verdict engine.old t)) whole.now texts.now result (only_taken result entries.new.items.items) }
+    requires { entries.old ≡ [] }
+    ensures taken { TakenDown (λ t. number_of E.Fault.numbered (E.verdict engine.old t)) whole.now texts.now result (only_taken result entries.new) }
     ensures kept { (t : List ℕ) → E.verdict engine.new t ≡ E.verdict engine.old t }
 {
     for (number, range) in texts.iter().enumerate() {
