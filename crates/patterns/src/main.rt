@@ -51,6 +51,7 @@ fn run(rt: &HostRuntime) -> anyhow::Result<()> {
     let mut input = BufReader::new(heap, rt.stdin())?;
     let mut output = BufWriter::new(heap, rt.stdout())?;
     let mut line = Vec::new(heap);
+    // The standard library's lines are UTF-8, which these need not be.
     for _ in 0..u64::MAX {
         line.clear();
         if input.read_until(b'\n', &mut line)? == 0 {

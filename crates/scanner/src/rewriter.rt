@@ -40,6 +40,7 @@ impl Rewriter {
         laws_of_rewriting();
         self.replaced.clear();
         replace_posix_char_classes(regex, &mut self.replaced)?;
+        // A flag and no enum: callers pass the loader's setting as it is.
         if lines_include_newline {
             regex_for_newlines(self.replaced.as_slice(), out)
         } else {
