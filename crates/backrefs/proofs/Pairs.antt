@@ -1,15 +1,11 @@
 -- Laws of the escapes of a pattern.
-use Rattle.std.proofs.Common.{◌≡◌, ℕ, pred, Bool, true, false, cond, eqb, List, [], ◌∷◌, ◌++◌, length, drop, Some, None, sym, refl, ap, ◌∙◌, arith, length-drop}
+use Rattle.std.proofs.Common.{◌≡◌, ℕ, pred, ◌-◌, ◌<◌, ◌≤◌, Bool, true, false, cond, eqb, List, [], ◌∷◌, ◌++◌, length, get_or, take, drop, sym, refl, ap, ◌∙◌, arith}
 use Rattle.std.specs.List.{flat_map}
+use Rattle.std.proofs.lemmas.List.{take_all}
 use Rattle.std.proofs.lemmas.Bool.{cond-true, cond-false, eq-eqb, ne_eqb, eqb-true}
-use Rattle.backrefs.specs.declared.backrefs.Pair.{Pair as Read}
-use Rattle.backrefs.specs.declared.backrefs.Pair.TheVariants.{Escaped, Single}
-use Rattle.tokens.specs.Cursor.{front}
-use Rattle.tokens.specs.Cut.{past_front, Honest}
-use Rattle.backrefs.specs.Backrefs.{Pair, escaped, single, spelled_pair, first_pair, pairs}
-use Rattle.backrefs.specs.Pairs.{meant_pair, TakenPair}
+use Rattle.tokens.specs.Cut.{Honest}
+use Rattle.backrefs.specs.Backrefs.{escaped, single, spelled_pair, escaped_or, first_pair, pairs}
 use Rattle.tokens.proofs.Cut.{cut_nil, cut_cons, cut_joined}
-use Rattle.tokens.proofs.Tokens.{none_some}
 
 honest_pair : Honest first_pair spelled_pair
 unfolding first_pair
@@ -25,41 +21,26 @@ honest_pair b (c ∷ bs) = go (eqb b 92) refl where
 pub pairs_joined : (bs : List ℕ) → flat_map spelled_pair (pairs bs) ≡ bs
 pairs_joined = cut_joined first_pair spelled_pair honest_pair
 
-pub no_pairs : (bs : List ℕ) → bs ≡ [] → pairs bs ≡ []
-no_pairs bs e = ap pairs e ∙ cut_nil first_pair spelled_pair
+pub no_pairs : (xs : List ℕ) → length xs < 1 → pairs xs ≡ []
+no_pairs [] h = cut_nil first_pair spelled_pair
+no_pairs (x ∷ xs) h = absurd (omega arith)
 
-taken_pair : (p : Read) (x : ℕ) (xs ys : List ℕ) → first_pair (x ∷ xs) ≡ meant_pair p → ys ≡ drop (pred (length (spelled_pair (meant_pair p)))) xs → TakenPair p (x ∷ xs) ys
-taken_pair p x xs ys is l =
-    let past : past_front first_pair spelled_pair x xs ≡ ys = ap (λ (q : Pair). drop (pred (length (spelled_pair q))) xs) is ∙ sym l in
-    record {
-      heads = cut_cons first_pair spelled_pair x xs ∙ ap (λ (q : Pair). q ∷ pairs (past_front first_pair spelled_pair x xs)) is ∙ ap (λ (zs : List ℕ). meant_pair p ∷ pairs zs) past;
-      shorter = omega (arith, simp length-drop at (ap length l));
-    }
-
-pub taken_single : (xs ys : List ℕ) (b : ℕ) → front xs ≡ Some b → ys ≡ drop 1 xs → (b ≡ 92 → ⊥) → TakenPair (Single b) xs ys
+pub escaped_first : (xs : List ℕ) → 2 ≤ length xs → get_or xs 0 0 ≡ 92 →
+    pairs xs ≡ escaped (get_or xs 1 0) ∷ pairs (take (length xs - 2) (drop 2 xs))
 unfolding first_pair
-taken_single [] ys b p q n = none_some b p
-taken_single (x ∷ xs) ys b p q n =
-    let e : x ≡ b = cc in
-    taken_pair (Single b) x xs ys (cond-false (eqb x 92) _ (single x) (ne_eqb x 92 (λ h. n (sym e ∙ h))) ∙ ap single e) q
+escaped_first [] h e = absurd (omega arith)
+escaped_first (b ∷ []) h e = absurd (omega arith)
+escaped_first (b ∷ c ∷ bs) h e =
+    cut_cons first_pair spelled_pair b (c ∷ bs) ∙ ap (λ p. p ∷ pairs (drop (pred (length (spelled_pair p))) (c ∷ bs))) (cond-true (eqb b 92) _ (single b) (eq-eqb b 92 e))
+    ∙ ap (λ cs. escaped c ∷ pairs cs) (sym (take_all (length (b ∷ c ∷ bs) - 2) bs (omega arith)))
 
--- a backslash that ends the text
-pub taken_last : (xs ys : List ℕ) (b : ℕ) → front xs ≡ Some b → ys ≡ drop 1 xs → front ys ≡ None → TakenPair (Single b) xs ys
+pub single_first : (xs : List ℕ) → 1 ≤ length xs → (get_or xs 0 0 ≡ 92 → length xs < 2) →
+    pairs xs ≡ single (get_or xs 0 0) ∷ pairs (take (length xs - 1) (drop 1 xs))
 unfolding first_pair
-taken_last [] ys b p q r = none_some b p
-taken_last (x ∷ []) ys b p q r =
-    let e : x ≡ b = cc in taken_pair (Single b) x [] ys (go (eqb x 92) ∙ ap single e) q where
-      go : (t : Bool) → cond t (single x) (single x) ≡ single x
-      go true = refl
-      go false = refl
-taken_last (x ∷ y ∷ xs) ys b p q r = none_some y (sym r ∙ ap front q)
-
-pub taken_escaped : (xs ys zs : List ℕ) (b c : ℕ) → front xs ≡ Some b → b ≡ 92 → ys ≡ drop 1 xs → front ys ≡ Some c → zs ≡ drop 1 ys → TakenPair (Escaped c) xs zs
-unfolding first_pair
-taken_escaped [] ys zs b c p is q r s = none_some b p
-taken_escaped (x ∷ []) ys zs b c p is q r s = none_some c (sym (ap front q) ∙ r)
-taken_escaped (x ∷ y ∷ xs) ys zs b c p is q r s =
-    let e : x ≡ b = cc in
-    let f : Some y ≡ Some c = sym (ap front q) ∙ r in
-    let g : y ≡ c = cc in
-    taken_pair (Escaped c) x (y ∷ xs) zs (cond-true (eqb x 92) (escaped y) (single x) (eq-eqb x 92 (e ∙ is)) ∙ ap escaped g) (s ∙ ap (drop 1) q)
+single_first [] h n = absurd (omega arith)
+single_first (b ∷ bs) h n =
+    cut_cons first_pair spelled_pair b bs ∙ ap (λ p. p ∷ pairs (drop (pred (length (spelled_pair p))) bs)) (is bs n)
+    ∙ ap (λ cs. single b ∷ pairs cs) (sym (take_all (length (b ∷ bs) - 1) bs (omega arith))) where
+      is : (cs : List ℕ) → (b ≡ 92 → length (b ∷ cs) < 2) → cond (eqb b 92) (escaped_or cs b) (single b) ≡ single b
+      is [] m = elim (eqb b 92) as (λ t. cond t (single b) (single b) ≡ single b) [ true ↦ refl | false ↦ refl ]
+      is (c ∷ cs) m = cond-false (eqb b 92) _ _ (ne_eqb b 92 (λ e. let few = m e in omega arith))

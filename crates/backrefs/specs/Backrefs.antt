@@ -1,6 +1,6 @@
 -- Backreferences in a pattern, and the texts that are put in for them.
 use Rattle.std.specs.Prelude.{ℕ, ◌+◌, ◌-◌, Bool, false, cond, ◌&&◌, ◌||◌, List, [], ◌∷◌, ◌++◌, Some, None, codes, Option, ◌==◌, nat_le, nat_lt}
-use Rattle.std.specs.List.{flat_map}
+use Rattle.std.specs.List.{flat_map, list_any}
 use Rattle.tokens.specs.Cut.{cut}
 
 -- A pattern by its escapes alone: a backslash and the byte that it escapes, or a single byte.
@@ -32,8 +32,7 @@ is_backref (escaped b) = digit b
 is_backref (single b) = false
 
 abbrev pub any_backref : List Pair → Bool
-any_backref [] = false
-any_backref (p ∷ ps) = is_backref p || any_backref ps
+any_backref = list_any is_backref
 
 abbrev pub has_backref : List ℕ → Bool
 has_backref bs = any_backref (pairs bs)

@@ -1,10 +1,10 @@
-ghost use Rattle.std.specs.Prelude.{◌≡◌, ℕ, false, List, Option};
+ghost use Rattle.std.specs.Prelude.{◌≡◌, ℕ, ◌<◌, false, length, Some, List, Option};
+ghost use Rattle.std.specs.Iterator.{YieldsFirstBy, item_count};
 ghost use Rattle.buffer.specs.Appends.{Appended};
-ghost use Rattle.backrefs.specs.Backrefs.{digit, has_backref, is_meta, literal, literally, placeholder, put, substituted, text_of};
-ghost use Rattle.backrefs.specs.Pairs.{NextPair, meant_pair};
+ghost use Rattle.backrefs.specs.Backrefs.{digit, has_backref, is_backref, is_meta, literal, literally, pairs, placeholder, put, substituted, text_of};
+ghost use Rattle.backrefs.specs.Pairs.{meant_pair};
 
-use buffer::{Buffer, TooLong};
-use tokens::Parser;
+use buffer::{Buffer, Pieces, TooLong};
 
 /// A pattern by its escapes alone.
 #[derive(Clone, Copy)]
@@ -14,35 +14,47 @@ enum Pair {
     Single(u8),
 }
 
-/// Reads the pair that stands here; none at the end.
-fn read_pair(parser: &mut Parser) -> Option<Pair>
-    ensures { NextPair result parser.old.rest.now parser.new.rest.now }
-{
-    let Some(byte) = parser.peek() else {
-        return None;
-    };
-    parser.next();
-    if byte != b'\\' {
-        return Some(Pair::Single(byte));
+impl Pair {
+    /// A backslash that no backslash escapes, before a digit.
+    fn is_backref(self) -> bool
+        ensures { result ≡ is_backref (meant_pair self) }
+    {
+        matches!(self, Pair::Escaped(b'0'..=b'9'))
     }
-    let Some(escaped) = parser.peek() else {
-        return Some(Pair::Single(byte));
-    };
-    parser.next();
-    Some(Pair::Escaped(escaped))
+}
+
+/// The pairs of what is left of a pattern.
+#[derive(Drop)]
+struct Pairs<'a>(&'a [u8]);
+
+impl Iterator for Pairs<'_> {
+    type Item = Pair;
+
+    ghost next_gives = { YieldsFirstBy meant_pair (λ s. pairs s.0.now) };
+
+    ghost remaining = { item_count (λ s. pairs s.0.now) };
+
+    #[tactic(auto, using(crate::proofs::Pairs::no_pairs, crate::proofs::Pairs::escaped_first, crate::proofs::Pairs::single_first))]
+    fn next(&mut self) -> Option<Pair> {
+        match self.0 {
+            [] => None,
+            [b'\\', escaped, rest @ ..] => {
+                self.0 = rest;
+                Some(Pair::Escaped(*escaped))
+            }
+            [byte, rest @ ..] => {
+                self.0 = rest;
+                Some(Pair::Single(*byte))
+            }
+        }
+    }
 }
 
 /// A backslash that no backslash escapes stands before a digit.
 pub fn has_backrefs(regex: &[u8]) -> bool
     ensures { result ≡ has_backref regex.now }
 {
-    let mut parser = Parser::new(regex);
-    while let Some(pair) = read_pair(&mut parser) {
-        if matches!(pair, Pair::Escaped(b'0'..=b'9')) {
-            return true;
-        }
-    }
-    false
+    Pairs(regex).any(Pair::is_backref)
 }
 
 /// What is put in for each backreference.
@@ -52,7 +64,18 @@ pub trait Substituter {
 
     /// Appends the text for a digit.
     fn substitute(&self, digit: u8, out: &mut Buffer<u8>) -> Result<(), TooLong>
-        ensures { Appended out.old.items.items (text_of (part self.now digit)) result out.new.items.items };
+        ensures { Appended out.old (text_of (part self.now digit)) result out.new };
+}
+
+/// `<placeholder_d>` for the digit d.
+fn placeholder(digit: u8) -> [u8; 15]
+    requires { digit < 10 }
+    ensures { Some result ≡ placeholder digit }
+{
+    let mut text = *b"<placeholder_0>";
+    let [.., place, _] = &mut text;
+    *place += digit;
+    text
 }
 
 /// Puts in `<placeholder_d>` for each digit d.
@@ -63,12 +86,10 @@ impl Substituter for Placeholders {
     ghost part = { λ _. placeholder };
 
     fn substitute(&self, digit: u8, out: &mut Buffer<u8>) -> Result<(), TooLong> {
-        if digit >= 10 {
-            return Ok(());
+        match digit {
+            0..=9 => out.extend(&placeholder(digit)),
+            _ => out.extend(b""),
         }
-        let mut text = *b"<placeholder_0>";
-        text[13] = b'0' + digit;
-        out.extend(&text)
     }
 }
 
@@ -100,7 +121,7 @@ fn is_meta(byte: u8) -> bool
 }
 
 fn write_literal_byte(byte: u8, out: &mut Buffer<u8>) -> Result<(), TooLong>
-    ensures { Appended out.old.items.items (literal byte) result out.new.items.items }
+    ensures { Appended out.old (literal byte) result out.new }
 {
     if is_meta(byte) {
         out.extend(&[b'\\', byte])
@@ -109,18 +130,27 @@ fn write_literal_byte(byte: u8, out: &mut Buffer<u8>) -> Result<(), TooLong>
     }
 }
 
+/// What is left of a text that is written so that it matches itself.
+#[derive(Drop)]
+struct Literal<'a>(&'a [u8]);
+
+impl Pieces<u8> for Literal<'_> {
+    ghost left = { λ s. literally s.0.now };
+
+    ghost size = { λ s. length s.0.now };
+
+    fn write_next(&mut self, out: &mut Buffer<u8>) -> Option<Result<(), TooLong>> {
+        let (byte, rest) = self.0.split_first()?;
+        self.0 = rest;
+        Some(write_literal_byte(*byte, out))
+    }
+}
+
 /// Appends a text so that it matches itself.
 pub(crate) fn write_literally(text: &[u8], out: &mut Buffer<u8>) -> Result<(), TooLong>
-    ensures { Appended out.old.items.items (literally text.now) result out.new.items.items }
+    ensures { Appended out.old (literally text.now) result out.new }
 {
-    let before = out.len();
-    for byte in text {
-        if let Err(refusal) = write_literal_byte(*byte, out) {
-            out.truncate(before);
-            return Err(refusal);
-        }
-    }
-    Ok(())
+    out.write_pieces(Literal(text))
 }
 
 fn write_pair<S: Substituter>(
@@ -128,12 +158,30 @@ fn write_pair<S: Substituter>(
     substituter: &S,
     out: &mut Buffer<u8>,
 ) -> Result<(), TooLong>
-    ensures { Appended out.old.items.items (put (S.part substituter.now) (meant_pair pair)) result out.new.items.items }
+    ensures { Appended out.old (put (S.part substituter.now) (meant_pair pair)) result out.new }
 {
     match pair {
         Pair::Escaped(byte) if byte.is_ascii_digit() => substituter.substitute(byte - b'0', out),
         Pair::Escaped(byte) => out.extend(&[b'\\', byte]),
         Pair::Single(byte) => out.push(byte),
+    }
+}
+
+/// What is left of a pattern, with texts in the place of its backreferences.
+#[derive(Drop)]
+struct Substituted<'a, S> {
+    pairs: Pairs<'a>,
+    substituter: &'a S,
+}
+
+impl<S: Substituter> Pieces<u8> for Substituted<'_, S> {
+    ghost left = { λ s. substituted (S.part s.substituter.now) s.pairs.0.now };
+
+    ghost size = { λ s. length (pairs s.pairs.0.now) };
+
+    fn write_next(&mut self, out: &mut Buffer<u8>) -> Option<Result<(), TooLong>> {
+        let pair = self.pairs.next()?;
+        Some(write_pair(pair, self.substituter, out))
     }
 }
 
@@ -143,16 +191,11 @@ pub fn substitute_backrefs_in_regex<S: Substituter>(
     substituter: &S,
     out: &mut Buffer<u8>,
 ) -> Result<(), TooLong>
-    ensures text { Appended out.old.items.items (substituted (S.part substituter.now) regex.now) result out.new.items.items }
+    ensures text { Appended out.old (substituted (S.part substituter.now) regex.now) result out.new }
     ensures unchanged { has_backref regex.now ≡ false → substituted (S.part substituter.now) regex.now ≡ regex.now }
 {
-    let before = out.len();
-    let mut pairs = Parser::new(regex);
-    while let Some(pair) = read_pair(&mut pairs) {
-        if let Err(refusal) = write_pair(pair, substituter, out) {
-            out.truncate(before);
-            return Err(refusal);
-        }
-    }
-    Ok(())
+    out.write_pieces(Substituted {
+        pairs: Pairs(regex),
+        substituter,
+    })
 }

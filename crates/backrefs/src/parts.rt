@@ -1,15 +1,19 @@
-ghost use Rattle.std.specs.Prelude.{◌≡◌, ℕ, ◌<◌, true, false, length, None, MatchResult, slice_index_or};
+ghost use Rattle.std.specs.Prelude.{◌≡◌, ℕ, ◌<◌, true, false, length, None, MatchResult, option_map, slice_index_or};
+ghost use Rattle.backrefs.specs.Backrefs.{literally};
 ghost use Rattle.backrefs.specs.Parts.{AllInside, inside, part_of};
 
 use crate::backrefs::{Substituter, write_literally};
 use crate::span::Span;
 use buffer::{Buffer, TooLong};
+use std::error::Error;
+use std::fmt;
 
 /// The parts of a matched line, by the numbers of the groups that they matched.
 #[derive(Clone, Copy)]
 pub struct MatchedParts<'a> {
     line: &'a [u8],
     parts: &'a [Option<Span>],
+    ghost all_inside: { AllInside line.now parts.now },
 }
 
 /// The number of a part that does not lie in its line.
@@ -18,14 +22,19 @@ pub struct OutsideLine {
     pub part: usize,
 }
 
+impl fmt::Display for OutsideLine {
+    fn fmt<W: fmt::Write>(&self, f: &mut fmt::Formatter<W>) -> fmt::Result {
+        write!(f, "part {} does not lie in the line", self.part)
+    }
+}
+
+impl Error for OutsideLine {}
+
 /// A part, if there is one, lies in a line of `len` bytes.
 fn is_inside(part: Option<Span>, len: usize) -> bool
     ensures { result ≡ inside len part }
 {
-    match part {
-        Some(span) => span.start <= span.end && span.end <= len,
-        None => true,
-    }
+    part.is_none_or(|span| span.start <= span.end && span.end <= len)
 }
 
 impl<'a> MatchedParts<'a> {
@@ -37,35 +46,25 @@ impl<'a> MatchedParts<'a> {
             × (inside (length line.now) (slice_index_or parts.now e.part None) ≡ false)
             × ((k : ℕ) → k < e.part → inside (length line.now) (slice_index_or parts.now k None) ≡ true)) }
     {
-        for (number, part) in parts.iter().enumerate() {
-            if !is_inside(*part, line.len()) {
-                return Err(OutsideLine { part: number });
-            }
+        match parts.iter().position(|part| !is_inside(*part, line.len())) {
+            Some(part) => Err(OutsideLine { part }),
+            None => Ok(MatchedParts { line, parts }),
         }
-        Ok(MatchedParts { line, parts })
     }
 
-    fn span(&self, number: usize) -> Option<Span>
-        ensures { result ≡ slice_index_or self.now.parts.now number None }
+    /// The bytes of a part.
+    fn text(&self, number: usize) -> Option<&'a [u8]>
+        ensures { option_map (λ text. literally text.now) result ≡ part_of self.now.line.now self.now.parts.now number }
     {
-        if number < self.parts.len() {
-            self.parts[number]
-        } else {
-            None
-        }
+        let span = (*self.parts.get(number)?)?;
+        Some(&self.line[span.start..span.end])
     }
 }
 
-impl<'a> Substituter for MatchedParts<'a> {
+impl Substituter for MatchedParts<'_> {
     ghost part = { λ m. part_of m.line.now m.parts.now };
 
     fn substitute(&self, digit: u8, out: &mut Buffer<u8>) -> Result<(), TooLong> {
-        let Some(Span { start, end }) = self.span(digit as usize) else {
-            return Ok(());
-        };
-        if start > end || end > self.line.len() {
-            return Ok(());
-        }
-        write_literally(&self.line[start..end], out)
+        write_literally(self.text(digit as usize).unwrap_or(b""), out)
     }
 }

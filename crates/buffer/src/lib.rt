@@ -2,10 +2,13 @@
 
 #![tactic(auto)]
 
-ghost use Rattle.std.specs.Prelude.{◌≡◌, ◌≤◌, [], ◌∷◌, length, take, IfOk, vec_len, vec_capacity};
-ghost use Rattle.buffer.specs.Appends.{Appended};
+ghost use Rattle.std.specs.Prelude.{◌≡◌, ℕ, ◌≤◌, List, [], ◌∷◌, length, take, IfOk, vec_len, vec_capacity};
+ghost use Rattle.buffer.specs.Appends.{Appended, WroteNext};
 
 use std::alloc::{AllocError, Global};
+use std::error::Error;
+use std::fmt;
+use std::marker::Model;
 
 /// The most items that a buffer holds.
 pub const LIMIT: usize = 65_536;
@@ -14,51 +17,79 @@ pub const LIMIT: usize = 65_536;
 #[derive(Clone, Copy, PartialEq, Eq, Debug)]
 pub struct TooLong;
 
+impl fmt::Display for TooLong {
+    fn fmt<W: fmt::Write>(&self, f: &mut fmt::Formatter<W>) -> fmt::Result {
+        write!(f, "more than the {LIMIT} items that a buffer holds")
+    }
+}
+
+impl Error for TooLong {}
+
 /// Items that are written one after another, up to the limit.
 ///
 /// The memory is had when the buffer is made: nothing that is written later can fail for want of it.
 #[derive(Drop)]
 pub struct Buffer<T> {
     items: Vec<T>,
-    ghost reserved: { 65536 ≤ vec_capacity items },
-    ghost within: { vec_len items ≤ 65536 },
+}
+
+impl<T> Model for Buffer<T> {
+    ghost Value = { List T };
+
+    ghost view = { λ b. b.items.items };
+
+    ghost invariant = { λ b. (65536 ≤ vec_capacity b.items) × (vec_len b.items ≤ 65536) };
+}
+
+/// What is written piece by piece.
+pub trait Pieces<T: Copy> {
+    /// The items that are still to be written.
+    ghost left: { Self → List T };
+
+    /// It falls with each piece.
+    ghost size: { Self → ℕ };
+
+    /// Writes the next piece, if there is one more: all of it, or nothing where there is no room.
+    fn write_next(&mut self, out: &mut Buffer<T>) -> Option<Result<(), TooLong>>
+        ensures { WroteNext (left self.old) (left self.new) (size self.old) (size self.new) result out.old out.new };
 }
 
 impl<T: Copy> Buffer<T> {
     pub fn new(heap: Global) -> Result<Self, AllocError>
-        ensures { IfOk result (λ b. b.items.items ≡ []) }
+        ensures { IfOk result (λ b. b ≡ []) }
     {
         let items = Vec::with_capacity(heap, LIMIT)?;
         Ok(Buffer { items })
     }
 
     pub fn as_slice(&self) -> &[T]
-        ensures { result.now ≡ self.now.items.items }
+        ensures { result.now ≡ self.now }
     {
         self.items.as_slice()
     }
 
     pub fn len(&self) -> usize
-        ensures { result ≡ length self.now.items.items }
+        ensures is { result ≡ length self.now }
+        ensures within { result ≤ 65536 }
     {
         self.items.len()
     }
 
     pub fn clear(&mut self)
-        ensures { self.new.items.items ≡ [] }
+        ensures { self.new ≡ [] }
     {
         self.items.clear();
     }
 
     /// Keeps the first `len` items.
     pub fn truncate(&mut self, len: usize)
-        ensures { self.new.items.items ≡ take len self.old.items.items }
+        ensures { self.new ≡ take len self.old }
     {
         self.items.truncate(len);
     }
 
     pub fn push(&mut self, item: T) -> Result<(), TooLong>
-        ensures { Appended self.old.items.items (item ∷ []) result self.new.items.items }
+        ensures { Appended self.old (item ∷ []) result self.new }
     {
         if self.len() >= LIMIT {
             return Err(TooLong);
@@ -68,14 +99,25 @@ impl<T: Copy> Buffer<T> {
     }
 
     pub fn extend(&mut self, items: &[T]) -> Result<(), TooLong>
-        ensures { Appended self.old.items.items items.now result self.new.items.items }
+        ensures { Appended self.old items.now result self.new }
     {
         if items.len() > LIMIT - self.len() {
             return Err(TooLong);
         }
-        match self.items.extend_from_slice(items) {
-            Ok(()) => Ok(()),
-            Err(_) => Err(TooLong),
+        self.items.extend_from_slice(items).map_err(|_| TooLong)
+    }
+
+    /// Appends all pieces, or nothing where there is no room for all of them.
+    pub fn write_pieces<P: Pieces<T> + Drop>(&mut self, mut pieces: P) -> Result<(), TooLong>
+        ensures { Appended self.old (P.left pieces) result self.new }
+    {
+        let before = self.len();
+        while let Some(written) = pieces.write_next(self) {
+            if let Err(refusal) = written {
+                self.truncate(before);
+                return Err(refusal);
+            }
         }
+        Ok(())
     }
 }

@@ -2,6 +2,7 @@
 use Rattle.std.proofs.Common.{◌≡◌, ℕ, zero, suc, ◌+◌, ◌-◌, ◌<◌, ◌≤◌, Bool, true, false, cond, ◌||◌, eqb, ltb, ◌⊎◌, List, [], ◌∷◌, ◌++◌, length, take, Some, None, Option, sym, refl, ap, ◌∙◌, subst, inl, inr, ⊎_elim, arith}
 use Rattle.std.proofs.lemmas.List.{take_all}
 use Rattle.std.proofs.lemmas.Bool.{cond-true, cond-false, ltb-true, ltb-false, lt-ltb, le-ltb, eqb-true, eq-eqb, ne_eqb, cases_lt, cases_eq, or_parts, or_cases, or_right}
+use Rattle.std.proofs.lemmas.Option.{none-some}
 use borrow.Author.Tests.{clash}
 use Rattle.tokens.specs.Tokens.{Token, escape, final, class, comment, plain, is_closed}
 use Rattle.engine.specs.declared.bracket.BracketFault.{BracketFault}
@@ -111,12 +112,12 @@ pub fault_on : (d d' : ℕ) (fault : Option BracketFault) (u : Token) (us : List
     fault_from d fault (u ∷ us) ≡ fault_from d' (leaves u) us
 fault_on d d' fault u us e = ⊎_elim
     (λ w. let same : Some w.0 ≡ Some d' = sym w.1 ∙ e in let is : w.0 ≡ d' = cc in shift d d' fault u us (w.2 ∙ ap (λ (k : ℕ). k + down u) is))
-    (λ w. let same : None ≡ Some d' = sym w.0 ∙ e in let z : ◌≡◌ {A = ℕ} 0 1 = cc in absurd (omega arith))
+    (λ w. absurd (none-some d' (sym w.0 ∙ e)))
     (way d u)
 
 pub fault_stuck : (d : ℕ) (fault : Option BracketFault) (u : Token) (us : List Token) → depth_after d u ≡ None → fault_from d fault (u ∷ us) ≡ Some Unopened
 fault_stuck d fault u us e = ⊎_elim
-    (λ w. let same : Some w.0 ≡ None = sym w.1 ∙ e in let z : ◌≡◌ {A = ℕ} 0 1 = cc in absurd (omega arith))
+    (λ w. absurd (none-some w.0 (sym e ∙ w.1)))
     (λ w. cond-true (falls d (u ∷ us)) _ _ (falls_stuck d u us w.1 w.2 w.3))
     (way d u)
 
@@ -124,7 +125,7 @@ fault_stuck d fault u us e = ⊎_elim
 pub depth_bound : (d d' : ℕ) (u : Token) → depth_after d u ≡ Some d' → d' ≤ d + 1
 depth_bound d d' u e = ⊎_elim
     (λ w. let same : Some w.0 ≡ Some d' = sym w.1 ∙ e in let is : w.0 ≡ d' = cc in go (opens u) (closes u) (w.2 ∙ ap (λ (k : ℕ). k + down u) is))
-    (λ w. let same : None ≡ Some d' = sym w.0 ∙ e in let z : ◌≡◌ {A = ℕ} 0 1 = cc in absurd (omega arith))
+    (λ w. absurd (none-some d' (sym w.0 ∙ e)))
     (way d u) where
       go : (s t : Bool) → d + cond s 1 0 ≡ d' + cond t 1 0 → d' ≤ d + 1
       go true true h = omega (arith, h)
@@ -161,36 +162,33 @@ last_is fault (u ∷ us) = ⊎_elim
     (λ w. inr (u ∷ w.0, w.1, ap (λ (vs : List Token). u ∷ vs) w.2, w.3))
     (last_is (leaves u) us)
 
-pub none_is_some : {A : Type 0} (f : BracketFault) → ◌≡◌ {A = Option BracketFault} None (Some f) → A
-none_is_some f e = let z : ◌≡◌ {A = ℕ} 0 1 = cc in absurd (omega arith)
-
 ends : (us : List Token) (r : Option BracketFault) → last_leaves None us ≡ r → Ends us r
 ends us None e = λ before u is. sym (last_in None before u) ∙ ap (last_leaves None) (sym is) ∙ e
 ends us (Some f) e = ⊎_elim
-    (λ z. none_is_some f (sym (ap (last_leaves None) z) ∙ e))
+    (λ z. absurd (none-some f (sym (ap (last_leaves None) z) ∙ e)))
     (λ w. (w.0, w.1, w.2, w.3 ∙ e))
     (last_is None us)
 
 -- a unit leaves one of two faults
 leaves_unopened : {A : Type 0} (u : Token) → leaves u ≡ Some Unopened → A
-leaves_unopened (escape b) e = none_is_some Unopened e
+leaves_unopened (escape b) e = absurd (none-some Unopened e)
 leaves_unopened final e = let z : ◌≡◌ {A = ℕ} 0 1 = cc in absurd (omega arith)
 leaves_unopened (class bs) e = go (is_closed bs) e where
   go : {A : Type 0} (t : Bool) → cond t None (Some UnclosedClass) ≡ Some Unopened → A
-  go true e = none_is_some Unopened e
+  go true e = absurd (none-some Unopened e)
   go false e = let z : ◌≡◌ {A = ℕ} 0 1 = cc in absurd (omega arith)
-leaves_unopened (comment bs) e = none_is_some Unopened e
-leaves_unopened (plain b) e = none_is_some Unopened e
+leaves_unopened (comment bs) e = absurd (none-some Unopened e)
+leaves_unopened (plain b) e = absurd (none-some Unopened e)
 
 leaves_unclosed : {A : Type 0} (u : Token) → leaves u ≡ Some Unclosed → A
-leaves_unclosed (escape b) e = none_is_some Unclosed e
+leaves_unclosed (escape b) e = absurd (none-some Unclosed e)
 leaves_unclosed final e = let z : ◌≡◌ {A = ℕ} 0 1 = cc in absurd (omega arith)
 leaves_unclosed (class bs) e = go (is_closed bs) e where
   go : {A : Type 0} (t : Bool) → cond t None (Some UnclosedClass) ≡ Some Unclosed → A
-  go true e = none_is_some Unclosed e
+  go true e = absurd (none-some Unclosed e)
   go false e = let z : ◌≡◌ {A = ℕ} 0 1 = cc in absurd (omega arith)
-leaves_unclosed (comment bs) e = none_is_some Unclosed e
-leaves_unclosed (plain b) e = none_is_some Unclosed e
+leaves_unclosed (comment bs) e = absurd (none-some Unclosed e)
+leaves_unclosed (plain b) e = absurd (none-some Unclosed e)
 
 never : (us : List Token) → falls 0 us ≡ false → NeverOverclosed us
 never us e n = omega (arith, ltb-false (0 + openings (take n us)) (closings (take n us)) (prefix_each (λ ps. ltb (0 + openings ps) (closings ps)) us e n))
@@ -223,6 +221,6 @@ pub fine_parts : (us : List Token) → fault_in us ≡ None → (falls 0 us ≡ 
 fine_parts us fine = go (falls 0 us) refl (ltb (closings us) (0 + openings us)) refl fine where
   go : (s : Bool) → falls 0 us ≡ s → (t : Bool) → ltb (closings us) (0 + openings us) ≡ t → cond s (Some Unopened) (cond t (Some Unclosed) (last_leaves None us)) ≡ None →
       (falls 0 us ≡ false) × (openings us ≡ closings us) × (last_leaves None us ≡ None)
-  go true e t f n = none_is_some Unopened (sym n)
-  go false e true f n = none_is_some Unclosed (sym n)
+  go true e t f n = absurd (none-some Unopened (sym n))
+  go false e true f n = absurd (none-some Unclosed (sym n))
   go false e false f n = (e, omega (arith, whole_never us (never us e), ltb-false (closings us) (0 + openings us) f), n)

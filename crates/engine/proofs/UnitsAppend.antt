@@ -1,6 +1,7 @@
 -- Text that leaves nothing open, put before another: the units are those of both.
 use Rattle.std.proofs.Common.{◌≡◌, ℕ, zero, suc, pred, ◌≤◌, Bool, true, false, cond, eqb, List, [], ◌∷◌, ◌++◌, length, take, drop, Some, None, Option, sym, refl, ap, ◌∙◌, arith, length-drop, length-take}
 use Rattle.std.proofs.lemmas.List.{take_all, drop_all, take-append-le, drop-append-le}
+use Rattle.std.proofs.lemmas.Option.{none-some}
 use borrow.Author.Tests.{clash}
 use Rattle.tokens.specs.declared.class.ClassWalker.{ClassWalker}
 use Rattle.tokens.specs.Classes.{opened, stepped, closes}
@@ -12,7 +13,7 @@ use Rattle.engine.specs.declared.bracket.BracketFault.{BracketFault}
 use Rattle.engine.specs.declared.bracket.BracketFault.TheVariants.{UnclosedClass, FinalBackslash}
 use Rattle.engine.specs.Brackets.{leaves, last_leaves, fault_from, fault_in}
 use Rattle.engine.specs.Units.{first_unit, units}
-use Rattle.engine.proofs.BracketLaws.{none_is_some, fault_append, fine_parts}
+use Rattle.engine.proofs.BracketLaws.{fault_append, fine_parts}
 
 -- a class that is closed ends where it did, whatever follows
 length_closed : (w : ClassWalker) (bs ys : List ℕ) → closed_in w bs ≡ true → (class_length w (bs ++ ys) ≡ class_length w bs) × (class_length w bs ≤ length bs)
@@ -44,8 +45,8 @@ abbrev Unit : ℕ → List ℕ → List ℕ → Token → Token → Type 0
 Unit b bs ys t t' = (leaves t ≡ None → Settled b bs ys t t') × ((f : BracketFault) → leaves t ≡ Some f → Ended bs t)
 
 escape_unit : (b : ℕ) (bs ys : List ℕ) → Unit b bs ys (escaping bs) (escaping (bs ++ ys))
-escape_unit b [] ys = ((λ e. none_is_some FinalBackslash (sym e)), λ f e. refl)
-escape_unit b (c ∷ bs) ys = ((λ e. (refl, omega arith)), λ f e. none_is_some f e)
+escape_unit b [] ys = ((λ e. absurd (none-some FinalBackslash (sym e))), λ f e. refl)
+escape_unit b (c ∷ bs) ys = ((λ e. (refl, omega arith)), λ f e. absurd (none-some f e))
 
 class_unit : (b : ℕ) (bs ys : List ℕ) → Unit b bs ys (class (b ∷ take (class_length opened bs) bs)) (class (b ∷ take (class_length opened (bs ++ ys)) (bs ++ ys)))
 class_unit b bs ys = go (closed_in opened bs) refl where
@@ -59,10 +60,10 @@ class_unit b bs ys = go (closed_in opened bs) refl where
           ap (λ (n : ℕ). class (b ∷ take n (bs ++ ys))) w.0 ∙ ap (λ (xs : List ℕ). class (b ∷ xs)) (take-append-le (class_length opened bs) bs ys w.1),
           simp length-take (omega (arith, w.1)),
         )),
-        λ f l. none_is_some f (sym (is true e) ∙ l),
+        λ f l. absurd (none-some f (sym (is true e) ∙ l)),
       )
   go false e = (
-    (λ l. none_is_some UnclosedClass (sym l ∙ is false e)),
+    (λ l. absurd (none-some UnclosedClass (sym l ∙ is false e))),
     λ f l. ap (λ (n : ℕ). drop (length (take n bs)) bs) (length_left_open opened bs e)
         ∙ ap (λ (xs : List ℕ). drop (length xs) bs) (take_all (length bs) bs (omega arith)) ∙ drop_all (length bs) bs (omega arith),
   )
@@ -76,7 +77,7 @@ first_unit_lem b bs ys = go (eqb b 92) (eqb b 91) where
   go : (s t : Bool) → Unit b bs ys (shape s t bs) (shape s t (bs ++ ys))
   go true t = escape_unit b bs ys
   go false true = class_unit b bs ys
-  go false false = ((λ e. (refl, omega arith)), λ f e. none_is_some f e)
+  go false false = ((λ e. (refl, omega arith)), λ f e. absurd (none-some f e))
 
 pub units_append : (n : ℕ) (xs ys : List ℕ) → length xs ≤ n → last_leaves None (units xs) ≡ None → units (xs ++ ys) ≡ units xs ++ units ys
 units_append n [] ys h e = ap (λ (us : List Token). us ++ units ys) (sym (cut_nil first_unit spelled))
@@ -105,7 +106,7 @@ units_append (suc n) (b ∷ bs) ys h e =
           ∙ ap (λ (us : List Token). us ++ units ys) (sym cut_is)
       go (Some f) l rest =
           let none : units past ≡ [] = ap units ((first_unit_lem b bs ys).1 f l) ∙ cut_nil first_unit spelled in
-          none_is_some f (sym left ∙ ap (last_leaves (leaves t)) none ∙ l)
+          absurd (none-some f (sym left ∙ ap (last_leaves (leaves t)) none ∙ l))
 
 -- text that is fine can be put before any text
 pub fine_before : (xs ys : List ℕ) → fault_in (units xs) ≡ None → fault_in (units (xs ++ ys)) ≡ fault_in (units ys)

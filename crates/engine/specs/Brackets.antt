@@ -12,6 +12,13 @@ bracket_number Unclosed = 2
 bracket_number UnclosedClass = 3
 bracket_number FinalBackslash = 4
 
+-- the fault in words
+abbrev pub bracket_text : BracketFault → List ℕ
+bracket_text Unopened = codes "a `)` that no `(` opened"
+bracket_text Unclosed = codes "a `(` that no `)` closes"
+bracket_text UnclosedClass = codes "a class that no `]` closes"
+bracket_text FinalBackslash = codes "a backslash at the end"
+
 -- a `(` that is neither escaped nor in a class
 abbrev pub opens : Token → Bool
 opens (escape b) = false

@@ -2,6 +2,7 @@ ghost use Rattle.std.specs.Prelude.{◌≡◌};
 
 use engine::{BracketEngine, BracketFault, Engine};
 use judging::{Refused, TextRange, judge_all};
+use std::test::Fail;
 
 /// An engine around any other, with its meaning, that counts what it is asked.
 #[derive(Drop)]
@@ -21,7 +22,7 @@ impl<E: Engine> Engine for Counting<E> {
     }
 }
 
-fn range(start: usize, length: usize) -> TextRange {
+pub(crate) fn range(start: usize, length: usize) -> TextRange {
     TextRange { start, length }
 }
 
@@ -50,4 +51,15 @@ fn a_text_outside_is_refused_in_its_turn(rt: HostRuntime) {
     assert_eq!(rt; answer, Err(Refused::Outside { number: 1 }));
     assert_eq!(rt; judge_all(&mut BracketEngine, b"(a)", &[]), Ok(()));
     assert_eq!(rt; judge_all(&mut BracketEngine, b"(a)", &texts[0..1]), Ok(()));
+}
+
+#[test]
+fn a_refusal_prints_its_fault(rt: HostRuntime) -> Result<(), Fail> {
+    let refused = Refused::Faulty {
+        number: 2,
+        fault: BracketFault::Unopened,
+    };
+    let text = format!(in rt.alloc(); "{refused}")?;
+    assert_eq!(rt; text.as_str(), "text 2: a `)` that no `(` opened");
+    Ok(())
 }

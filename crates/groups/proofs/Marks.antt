@@ -1,19 +1,19 @@
 -- Laws of marks: what is read, and what the numbering keeps.
-use Rattle.std.proofs.Common.{◌≡◌, ℕ, suc, pred, ◌+◌, ◌-◌, ◌≤◌, Bool, true, false, cond, not, ◌&&◌, ◌||◌, eqb, List, [], ◌∷◌, ◌++◌, length, take, drop, Some, None, Option, sym, refl, ap, ◌∙◌, arith, length-drop, length-take}
+use Rattle.std.proofs.Common.{◌≡◌, ℕ, zero, suc, pred, ◌+◌, ◌-◌, ◌<◌, Bool, true, false, cond, not, ◌&&◌, ◌||◌, eqb, List, [], ◌∷◌, ◌++◌, length, take, drop, Some, None, sym, refl, ap, ◌∙◌, arith, length-drop, length-take}
+use Rattle.std.specs.List.{AllWithin, HoldsAt}
 use Rattle.std.proofs.lemmas.Bool.{cond-true, cond-false, ne_eqb}
 use Rattle.std.proofs.lemmas.Bool.Decides.{nat_tests}
 use borrow.Author.Tests.{clash}
 use Rattle.tokens.specs.declared.parser.Token.{Token as Read}
 use Rattle.groups.specs.declared.captures.Group.{Group}
 use Rattle.groups.specs.declared.captures.Group.TheVariants.{Capturing, Lookaround, Other}
+use Rattle.groups.specs.declared.captures.Mark.TheVariants.{Opens, Token as Tokened}
 use Rattle.groups.specs.declared.captures.Opening.{Opening}
 use Rattle.groups.specs.declared.captures.Opening.TheVariants.{Last, Plain, Asked, Lookahead, Lookbehind, Angled, Quoted, Python, Unnamed}
-use Rattle.groups.specs.declared.captures.Mark.TheVariants.{Opens, Token as Tokened}
 use Rattle.tokens.specs.Cut.{past_front}
 use Rattle.tokens.specs.Reads.{meant, Taken}
 use Rattle.tokens.specs.Tokens.{escape, final, class, comment, plain, first, opens_group}
-use Rattle.groups.specs.Captures.{Mark, group, token, opening, width, group_of, spelled_mark, first_mark, marks, groups_after, in_lookaround, number_after, valid_number, valid_numbers, depth_in_lookaround, depth_after, found_number, listed, name_byte, name_ends, named}
-use Rattle.tokens.specs.Cursor.{front}
+use Rattle.groups.specs.Captures.{Mark, group, token, opening, width, group_of, spelled_mark, first_mark, marks, groups_after, in_lookaround, number_after, valid_number, valid_numbers, numbers_from, depth_in_lookaround, depth_after, found_number, listed, name_byte, name_ends}
 use Rattle.groups.specs.Marks.{TakenMark}
 use Rattle.tokens.proofs.Cut.{cut_nil, cut_cons}
 use Rattle.tokens.proofs.Lists.{drop_least}
@@ -45,10 +45,10 @@ taken_group (x ∷ xs) ys behind o g n h b e w l k =
     ap (λ (s : Mark). drop (pred (length (spelled_mark s))) xs) here ∙ ap (λ (j : ℕ). drop (pred (length (take j (x ∷ xs)))) xs) many
     ∙ drop_least m (length (take m xs)) xs (length-take m xs) ∙ sym gone in
     record {
-      mark = group (group_of (opening xs) xs) text;
-      stands = k ∙ ap (λ (p : Opening). group_of p behind) op ∙ ap (group_of (opening xs)) b;
+      text = text;
       heads = cut_cons first_mark spelled_mark x xs ∙ ap (λ (s : Mark). s ∷ marks (past_front first_mark spelled_mark x xs)) here
-          ∙ ap (λ (zs : List ℕ). group (group_of (opening xs) xs) text ∷ marks zs) past;
+          ∙ ap (λ (zs : List ℕ). group (group_of (opening xs) xs) text ∷ marks zs) past
+          ∙ ap (λ (h : Group). group h text ∷ marks ys) (sym (k ∙ ap (λ (p : Opening). group_of p behind) op ∙ ap (group_of (opening xs)) b));
       shorter = omega (arith, simp length-drop at (ap length gone));
     }
 
@@ -60,8 +60,7 @@ taken_other t (x ∷ xs) ys e w =
     let here : first_mark (x ∷ xs) ≡ token (first (x ∷ xs)) = cond-false (opens_group (x ∷ xs)) _ _ e in
     let past : past_front first_mark spelled_mark x xs ≡ ys = ap (λ (s : Mark). drop (pred (length (spelled_mark s))) xs) here ∙ sym (taken_first t x xs ys w).1 in
     record {
-      mark = token (meant t);
-      stands = refl;
+      text = [];
       heads = cut_cons first_mark spelled_mark x xs ∙ ap (λ (s : Mark). s ∷ marks (past_front first_mark spelled_mark x xs)) (here ∙ ap token is)
           ∙ ap (λ (zs : List ℕ). token (meant t) ∷ marks zs) past;
       shorter = w.shorter;
@@ -116,34 +115,43 @@ found_valid groups n (group Lookaround bs) = refl
 found_valid groups n (group Other bs) = refl
 found_valid groups n (token t) = refl
 
-pub named_front : (close : ℕ) (xs ys : List ℕ) (b : ℕ) → front xs ≡ Some b → ys ≡ drop 1 xs → named close xs ≡ (name_byte b && name_ends close ys)
-named_front close [] ys b p q = let z : ◌≡◌ {A = ℕ} 0 1 = cc in absurd (omega arith)
-named_front close (x ∷ xs) ys b p q =
-    let e : x ≡ b = cc in
-    ap (λ (c : ℕ). name_byte c && name_ends close xs) e ∙ ap (λ (zs : List ℕ). name_byte b && name_ends close zs) (sym q)
+-- a byte that ends the search for the one that closes a name
+abbrev pub stops : ℕ → ℕ → Bool
+stops close b = eqb b close || not (name_byte b)
 
--- A mark numbers at most one group, and enters at most one.
-pub number_bound : (n : ℕ) (m : Mark) → number_after n m ≤ n + 1
-number_bound n (group Capturing bs) = omega arith
-number_bound n (group Lookaround bs) = omega arith
-number_bound n (group Other bs) = omega arith
-number_bound n (token t) = omega arith
+past_name : (close b : ℕ) (bs : List ℕ) → stops close b ≡ false → name_ends close (b ∷ bs) ≡ name_ends close bs
+past_name close b bs = go (eqb b close) (name_byte b) where
+  go : (z t : Bool) → (z || not t) ≡ false → (z || (t && name_ends close bs)) ≡ name_ends close bs
+  go true t e = absurd (clash (sym e))
+  go false true e = refl
+  go false false e = absurd (clash (sym e))
 
-pub depth_bound : (d : ℕ) (m : Mark) → depth_after d m ≤ d + 1
-depth_bound d (group Capturing bs) = grind (arith, nat_tests)
-depth_bound d (group Lookaround bs) = omega arith
-depth_bound d (group Other bs) = grind (arith, nat_tests)
-depth_bound d (token (escape b)) = omega arith
-depth_bound d (token final) = omega arith
-depth_bound d (token (class bs)) = omega arith
-depth_bound d (token (comment bs)) = omega arith
-depth_bound d (token (plain b)) = grind (arith, nat_tests)
+at_stop : (close b : ℕ) (bs : List ℕ) → stops close b ≡ true → name_ends close (b ∷ bs) ≡ eqb b close
+at_stop close b bs = go (eqb b close) (name_byte b) where
+  go : (z t : Bool) → (z || not t) ≡ true → (z || (t && name_ends close bs)) ≡ z
+  go true t e = refl
+  go false true e = absurd (clash e)
+  go false false e = refl
 
--- what the mark that was read adds
-pub mark_step : (xs ys : List ℕ) (m : Mark) (groups : List Bool) (d n n' : ℕ) (found : Option ℕ) → marks xs ≡ m ∷ marks ys → d ≡ depth_in_lookaround groups →
-    n' ≡ number_after n m → found ≡ found_number d n m →
-    valid_numbers groups n (marks xs) ≡ listed found ++ valid_numbers (groups_after groups m) n' (marks ys)
-mark_step xs ys m groups d n n' found heads deep number is =
-    ap (valid_numbers groups n) heads
-    ∙ ap (λ (k : List ℕ). k ++ valid_numbers (groups_after groups m) (number_after n m) (marks ys)) (sym (ap listed is ∙ ap (λ (e : ℕ). listed (found_number e n m)) deep ∙ found_valid groups n m))
-    ∙ ap (λ (k : ℕ). listed found ++ valid_numbers (groups_after groups m) k (marks ys)) (sym number)
+-- The name is closed if a byte that ends the search is found, and closes it.
+pub never_closed : (close : ℕ) (bs : List ℕ) → AllWithin (λ b. stops close b ≡ false) bs 0 (length bs) → name_ends close bs ≡ false
+never_closed close [] all = refl
+never_closed close (b ∷ bs) all =
+    past_name close b bs (all 0 0 (omega arith) (omega arith)) ∙ never_closed close bs (λ k d l h. all (suc k) d (omega arith) (omega (arith, h)))
+
+pub closed_where : (close x : ℕ) (bs : List ℕ) (i : ℕ) → stops close x ≡ true → i < length bs → HoldsAt (λ y. y ≡ x) bs i →
+    AllWithin (λ b. stops close b ≡ false) bs 0 i → name_ends close bs ≡ eqb x close
+closed_where close x [] i s h at all = absurd (omega (arith, h))
+closed_where close x (b ∷ bs) zero s h at all =
+    at_stop close b bs (ap (stops close) (at 0) ∙ s) ∙ ap (λ y. eqb y close) (at 0)
+closed_where close x (b ∷ bs) (suc i) s h at all =
+    past_name close b bs (all 0 0 (omega arith) (omega arith))
+    ∙ closed_where close x bs i s (omega (arith, h)) (λ d. at d) (λ k d l h. all (suc k) d (omega arith) (omega (arith, h)))
+
+-- The numbers that the depth gives are those that are valid.
+pub numbers_valid : (groups : List Bool) (n : ℕ) (ms : List Mark) → numbers_from (depth_in_lookaround groups) n ms ≡ valid_numbers groups n ms
+numbers_valid groups n [] = refl
+numbers_valid groups n (m ∷ ms) =
+    ap (λ ns. ns ++ numbers_from (depth_after (depth_in_lookaround groups) m) (number_after n m) ms) (found_valid groups n m)
+    ∙ ap (λ d. valid_number groups n m ++ numbers_from d (number_after n m) ms) (sym (deep_after groups m))
+    ∙ ap (λ ns. valid_number groups n m ++ ns) (numbers_valid (groups_after groups m) (number_after n m) ms)

@@ -154,6 +154,11 @@ abbrev pub listed : Option ℕ → List ℕ
 listed None = []
 listed (Some n) = n ∷ []
 
+-- The numbers that are valid from here on, by what the numbering keeps.
+abbrev pub numbers_from : ℕ → ℕ → List Mark → List ℕ
+numbers_from depth n [] = []
+numbers_from depth n (m ∷ ms) = listed (found_number depth n m) ++ numbers_from (depth_after depth m) (number_after n m) ms
+
 -- each number is less than the next
 abbrev pub Rising : List ℕ → Type 0
 Rising [] = Unit {0}

@@ -5,17 +5,14 @@ use Rattle.groups.specs.declared.captures.Mark.TheVariants.{Opens, Token as Toke
 use Rattle.groups.specs.Captures.{Mark, group, token, marks}
 use Rattle.tokens.specs.Reads.{meant}
 
--- a value of the code stands for a mark
-abbrev pub StandsFor : Read → Mark → Type 0
-StandsFor (Opens g) (group h bs) = g ≡ h
-StandsFor (Opens g) (token t) = ⊥
-StandsFor (Tokened t) (group h bs) = ⊥
-StandsFor (Tokened t) (token u) = meant t ≡ u
+-- the mark that a value of the code stands for, where `bs` opens the group
+abbrev pub meant_mark : List ℕ → Read → Mark
+meant_mark bs (Opens g) = group g bs
+meant_mark bs (Tokened t) = token (meant t)
 
 pub record TakenMark (m : Read) (before after : List ℕ) : Type 0 where
-  pub mark : Mark
-  pub stands : StandsFor m mark
-  pub heads : marks before ≡ mark ∷ marks after
+  pub text : List ℕ
+  pub heads : marks before ≡ meant_mark text m ∷ marks after
   pub shorter : length after < length before
 
 abbrev pub NextMark : Option Read → List ℕ → List ℕ → Type 0

@@ -1,10 +1,9 @@
-ghost use Rattle.std.specs.Prelude.{◌≡◌, ◌+◌, ◌^◌, ◌<◌, [], drop};
+ghost use Rattle.std.specs.Prelude.{◌≡◌, ◌+◌, ◌^◌, ◌<◌, [], ◌++◌, drop, length};
 ghost use Rattle.buffer.specs.Appends.{Appended};
-ghost use Rattle.groups.specs.Captures.{Mark as SpecMark};
-ghost use Rattle.groups.specs.Captures.{Rising, consuming_captures, depth_after, entered, found_number, group_of, capturing_if, listed, marks, named, name_byte, name_ends, number_after, opening, valid_numbers, width};
-ghost use Rattle.groups.specs.Marks.{NextMark, StandsFor};
+ghost use Rattle.groups.specs.Captures.{Rising, consuming_captures, depth_after, entered, found_number, group_of, listed, marks, named, name_byte, name_ends, number_after, numbers_from, opening, width};
+ghost use Rattle.groups.specs.Marks.{NextMark, meant_mark};
 
-use buffer::{Buffer, TooLong};
+use buffer::{Buffer, Pieces, TooLong};
 use tokens::{Parser, Token};
 
 /// What a group is to the numbering.
@@ -71,41 +70,29 @@ impl Opening {
         }
     }
 
+    /// What the group is that opens so, by the bytes behind its `(`.
     fn group(self, behind: &[u8]) -> Group
         ensures { result ≡ group_of self behind.now }
     {
         match self {
             Opening::Plain | Opening::Python => Group::Capturing,
             Opening::Lookahead | Opening::Lookbehind => Group::Lookaround,
-            Opening::Angled => if_named(behind, b'>'),
-            Opening::Quoted => if_named(behind, b'\''),
-            Opening::Last | Opening::Asked | Opening::Unnamed => Group::Other,
+            Opening::Angled if is_named(behind, b'>') => Group::Capturing,
+            Opening::Quoted if is_named(behind, b'\'') => Group::Capturing,
+            Opening::Last | Opening::Asked | Opening::Angled | Opening::Quoted | Opening::Unnamed =>
+                Group::Other,
         }
     }
 }
 
-/// A group captures if a name and its closing byte stand two bytes behind its `(`.
-fn if_named(behind: &[u8], close: u8) -> Group
-    ensures { result ≡ capturing_if (named close (drop 2 behind.now)) }
+/// A name and the byte that closes it stand two bytes behind the `(` of a group.
+fn is_named(behind: &[u8], close: u8) -> bool
+    ensures { result ≡ named close (drop 2 behind.now) }
 {
-    let mut parser = Parser::new(behind);
-    parser.advance(2);
-    if is_named(parser, close) {
-        Group::Capturing
-    } else {
-        Group::Other
+    match behind {
+        [_, _, first, rest @ ..] => is_name_byte(*first) && name_ends(rest, close),
+        _ => false,
     }
-}
-
-/// A name and the byte that closes it stand here.
-fn is_named(mut parser: Parser, close: u8) -> bool
-    ensures { result ≡ named close parser.entry.rest.now }
-{
-    let Some(first) = parser.peek() else {
-        return false;
-    };
-    parser.next();
-    is_name_byte(first) && name_ends(parser.rest(), close)
 }
 
 fn is_name_byte(byte: u8) -> bool
@@ -118,15 +105,10 @@ fn is_name_byte(byte: u8) -> bool
 fn name_ends(text: &[u8], close: u8) -> bool
     ensures { result ≡ name_ends close text.now }
 {
-    for byte in text {
-        if *byte == close {
-            return true;
-        }
-        if !is_name_byte(*byte) {
-            return false;
-        }
-    }
-    false
+    let end = text
+        .iter()
+        .find(|byte| **byte == close || !is_name_byte(**byte));
+    end == Some(&close)
 }
 
 /// The opening of a group, or any other token.
@@ -146,10 +128,7 @@ fn read_mark<'a>(parser: &mut Parser<'a>) -> Option<Mark<'a>>
         parser.advance(opening.width());
         return Some(Mark::Opens(opening.group(behind)));
     }
-    match parser.token() {
-        Some(token) => Some(Mark::Token(token)),
-        None => None,
-    }
+    parser.token().map(Mark::Token)
 }
 
 /// What the numbering keeps of the groups so far.
@@ -176,16 +155,16 @@ impl Numbering {
     /// Goes on by a mark, and gives the number of the group that it opens where that is valid.
     fn meet(&mut self, mark: Mark) -> Option<usize>
         requires { (self.old.number + 1 < 2 ^ 64) × (self.old.lookaround_depth + 1 < 2 ^ 64) }
-        ensures number { (m : SpecMark) → StandsFor mark.entry m → self.new.number ≡ number_after self.old.number m }
-        ensures depth { (m : SpecMark) → StandsFor mark.entry m → self.new.lookaround_depth ≡ depth_after self.old.lookaround_depth m }
-        ensures found { (m : SpecMark) → StandsFor mark.entry m → result ≡ found_number self.old.lookaround_depth self.old.number m }
+        ensures number { self.new.number ≡ number_after self.old.number (meant_mark [] mark.entry) }
+        ensures depth { self.new.lookaround_depth ≡ depth_after self.old.lookaround_depth (meant_mark [] mark.entry) }
+        ensures found { result ≡ found_number self.old.lookaround_depth self.old.number (meant_mark [] mark.entry) }
     {
         match mark {
             Mark::Opens(Group::Capturing) => {
                 let outside = self.lookaround_depth == 0;
                 self.number += 1;
                 self.enter();
-                if outside { Some(self.number) } else { None }
+                outside.then_some(self.number)
             }
             Mark::Opens(Group::Lookaround) => {
                 self.lookaround_depth += 1;
@@ -204,45 +183,45 @@ impl Numbering {
     }
 }
 
-fn write_number(found: Option<usize>, out: &mut Buffer<usize>) -> Result<(), TooLong>
-    ensures { Appended out.old.items.items (listed found) result out.new.items.items }
-{
-    match found {
-        Some(number) => out.push(number),
-        None => Ok(()),
-    }
+/// The numbers of the groups whose text is consumed, found mark by mark.
+#[derive(Clone, Copy)]
+struct GroupNumbers<'a> {
+    /// the number of the whole match, until it is written
+    whole: Option<usize>,
+    parser: Parser<'a>,
+    numbering: Numbering,
+    // no more groups are numbered, or open, than bytes are read
+    ghost few: { numbering.number + length parser.rest.now < 2 ^ 64 },
+    ghost shallow: { numbering.lookaround_depth + length parser.rest.now < 2 ^ 64 },
 }
 
-/// Appends the numbers of the capturing groups that lie in no lookaround.
-fn write_group_numbers(regex: &[u8], out: &mut Buffer<usize>) -> Result<(), TooLong>
-    ensures { Appended out.old.items.items (valid_numbers [] 0 (marks regex.now)) result out.new.items.items }
-{
-    let before = out.len();
-    let mut numbering = Numbering {
-        number: 0,
-        lookaround_depth: 0,
-    };
-    let mut parser = Parser::new(regex);
-    while let Some(mark) = read_mark(&mut parser) {
-        if let Err(refusal) = write_number(numbering.meet(mark), out) {
-            out.truncate(before);
-            return Err(refusal);
+impl Pieces<usize> for GroupNumbers<'_> {
+    ghost left = { λ s. listed s.whole ++ numbers_from s.numbering.lookaround_depth s.numbering.number (marks s.parser.rest.now) };
+
+    ghost size = { λ s. length (listed s.whole) + length s.parser.rest.now };
+
+    fn write_next(&mut self, out: &mut Buffer<usize>) -> Option<Result<(), TooLong>> {
+        if let Some(whole) = self.whole.take() {
+            return Some(out.push(whole));
         }
+        let mark = read_mark(&mut self.parser)?;
+        let found = self.numbering.meet(mark);
+        Some(out.extend(found.as_slice()))
     }
-    Ok(())
 }
 
 /// Appends the numbers of the groups whose text is consumed, rising: 0 for the whole match, and each capturing group that
 /// lies in no lookaround.
 pub fn get_consuming_capture_indexes(regex: &[u8], out: &mut Buffer<usize>) -> Result<(), TooLong>
-    ensures numbers { Appended out.old.items.items (consuming_captures regex.now) result out.new.items.items }
+    ensures numbers { Appended out.old (consuming_captures regex.now) result out.new }
     ensures rising { Rising (consuming_captures regex.now) }
 {
-    let before = out.len();
-    out.push(0)?;
-    if let Err(refusal) = write_group_numbers(regex, out) {
-        out.truncate(before);
-        return Err(refusal);
-    }
-    Ok(())
+    out.write_pieces(GroupNumbers {
+        whole: Some(0),
+        parser: Parser::new(regex),
+        numbering: Numbering {
+            number: 0,
+            lookaround_depth: 0,
+        },
+    })
 }

@@ -1,16 +1,17 @@
 -- A record of an engine's verdicts agrees with the engine.
-use Rattle.std.proofs.Common.{◌≡◌, ℕ, zero, suc, ◌+◌, ◌<◌, ◌≤◌, Bool, true, false, cond, ◌||◌, eqb, ltb, ◌⊎◌, List, [], ◌∷◌, ◌++◌, length, get_or, drop, Some, None, Option, sym, refl, ap, ◌∙◌, subst, inl, inr, ⊎_elim, arith}
+use Rattle.std.proofs.Common.{◌≡◌, ℕ, zero, suc, ◌<◌, ◌≤◌, Bool, true, false, cond, eqb, ltb, ◌⊎◌, List, [], ◌∷◌, ◌++◌, length, get_or, Some, None, Ok, Err, Option, Result, sym, refl, ap, ◌∙◌, subst, inl, inr, ⊎_elim, arith}
 use Rattle.std.specs.Str.{bytes_eq}
 use Rattle.std.proofs.lemmas.Slice.Eq.{bytes_eq-Decides}
-use Rattle.std.proofs.lemmas.Bool.{cond-true, cond-false, eq-eqb, ne_eqb, le-ltb, or_from, cases_eq, cases_lt}
-use Rattle.std.proofs.lemmas.List.{at_drop_more}
+use Rattle.std.proofs.lemmas.Bool.{cond-true, cond-false, eq-eqb, ne_eqb, le-ltb, cases_eq}
 use borrow.Author.Tests.{clash}
 use Rattle.judging.specs.declared.range.TextRange.{TextRange}
 use Rattle.judging.specs.declared.recorded.Entry.{Entry}
+use Rattle.judging.specs.declared.recording.Untaken.{Untaken}
+use Rattle.judging.specs.Entries.{SoundBelow}
 use Rattle.judging.specs.Judging.{There, number_of}
 use Rattle.judging.specs.Ranges.{lies, text_at, nowhere}
-use Rattle.judging.specs.Recording.{entry_for, entries_for, ThereBelow}
-use Rattle.judging.specs.Records.{recorded, recorded_number, fault_of, is_text, SoundBelow}
+use Rattle.judging.specs.Recording.{entries_for, only_taken, Agreed, TakenDown, ThereBelow}
+use Rattle.judging.specs.Records.{recorded, recorded_number, fault_number, fault_of, is_text}
 
 -- the number of the record's verdict on a text
 abbrev numbers : List ℕ → List Entry → List ℕ → ℕ
@@ -18,11 +19,9 @@ numbers whole es t = number_of recorded_number (recorded whole es t)
 
 -- what an entry says is read back
 read_back : (n : ℕ) → n ≤ 255 → number_of recorded_number (fault_of n) ≡ n
-read_back n h = ⊎_elim
-    (λ z. ap (number_of recorded_number) (cond-true (eqb n 0) None (Some (record { number = n })) (eq-eqb n 0 z)) ∙ sym z)
-    (λ z. ap (number_of recorded_number) (cond-false (eqb n 0) None (Some (record { number = n })) (ne_eqb n 0 z))
-    ∙ cond-false (eqb n 0 || ltb 255 n) 255 n (or_from (eqb n 0) (ltb 255 n) (ne_eqb n 0 z) (le-ltb 255 n h)))
-    (cases_eq n 0)
+unfolding fault_number
+read_back zero h = refl
+read_back (suc n) h = cond-false (ltb 255 (suc n)) 255 (suc n) (le-ltb 255 (suc n) h)
 
 -- the text at a range is that text
 text_is : (whole t : List ℕ) (r : TextRange) → is_text whole t r ≡ true → text_at whole r ≡ t
@@ -40,6 +39,7 @@ Told number whole texts t = (numbers whole (entries_for number whole texts) t �
     ⊎ ((numbers whole (entries_for number whole texts) t ≡ 255) × ((k : ℕ) → k < length texts → is_text whole t (get_or texts k nowhere) ≡ false))
 
 told : (number : List ℕ → ℕ) → ((t : List ℕ) → number t ≤ 255) → (whole : List ℕ) (texts : List TextRange) (t : List ℕ) → Told number whole texts t
+unfolding fault_number
 told number bound whole [] t = inr (refl, λ k h. absurd (omega arith))
 told number bound whole (r ∷ texts) t = go (is_text whole t r) refl (cases_eq n 255) (told number bound whole texts t) where
   n : ℕ
@@ -77,32 +77,19 @@ told number bound whole (r ∷ texts) t = go (is_text whole t r) refl (cases_eq 
       passed (ap (λ (es : List Entry). numbers whole es t) (written z)
       ∙ ap (number_of recorded_number) (cond-false (is_text whole t r) (fault_of n) (recorded whole rest t) e)) e w
 
-pub agree : (number : List ℕ → ℕ) → ((t : List ℕ) → number t ≤ 255) → (whole : List ℕ) (texts : List TextRange) (k : ℕ) → k < length texts → There whole texts k →
+agree : (number : List ℕ → ℕ) → ((t : List ℕ) → number t ≤ 255) → (whole : List ℕ) (texts : List TextRange) (k : ℕ) → k < length texts → There whole texts k →
     numbers whole (entries_for number whole texts) (text_at whole (get_or texts k nowhere)) ≡ number (text_at whole (get_or texts k nowhere))
 agree number bound whole texts k h there = ⊎_elim
     (λ e. e)
     (λ w. absurd (clash (sym (w.1 k h) ∙ text_there whole (get_or texts k nowhere) there)))
     (told number bound whole texts (text_at whole (get_or texts k nowhere)))
 
-pub number_bound : {F : Type 0} (number : F → ℕ) → ((f : F) → number f ≤ 255) → (o : Option F) → number_of number o ≤ 255
+number_bound : {F : Type 0} (number : F → ℕ) → ((f : F) → number f ≤ 255) → (o : Option F) → number_of number o ≤ 255
 number_bound number bound None = omega arith
 number_bound number bound (Some f) = bound f
 
--- one text more
-pub entry_on : (number : List ℕ → ℕ) (whole : List ℕ) (texts : List TextRange) (i v : ℕ) → i < length texts → v ≡ number (text_at whole (get_or texts i nowhere)) →
-    entries_for number whole (drop i texts) ≡ entry_for v (get_or texts i nowhere) ++ entries_for number whole (drop (i + 1) texts)
-entry_on number whole texts i v h e =
-    at_drop_more (entries_for number whole) texts i nowhere h
-    ∙ ap (λ (k : ℕ). entry_for k (get_or texts i nowhere) ++ entries_for number whole (drop (i + 1) texts)) (sym e)
-
-pub there_on : (whole : List ℕ) (texts : List TextRange) (i : ℕ) → ThereBelow whole texts i → There whole texts i → ThereBelow whole texts (i + 1)
-there_on whole texts i below here k h = ⊎_elim
-    (below k)
-    (λ (l : i ≤ k). let same : i ≡ k = omega arith in subst (There whole texts) same here)
-    (cases_lt k i)
-
 -- a record can be made of the entries
-pub sound_entries : (number : List ℕ → ℕ) (whole : List ℕ) (texts : List TextRange) → ThereBelow whole texts (length texts) →
+sound_entries : (number : List ℕ → ℕ) (whole : List ℕ) (texts : List TextRange) → ThereBelow whole texts (length texts) →
     SoundBelow whole (entries_for number whole texts) (length (entries_for number whole texts))
 sound_entries number whole [] there = λ k h. absurd (omega arith)
 sound_entries number whole (r ∷ texts) there =
@@ -125,3 +112,14 @@ sound_entries number whole (r ∷ texts) there =
       go (inr z) below =
           subst (λ (es : List Entry). SoundBelow whole (es ++ rest) (length (es ++ rest)))
           (sym (cond-false (eqb n 255) [] (record { text = r; verdict = n } ∷ []) (ne_eqb n 255 z))) (more z below)
+
+-- so what is taken down agrees
+pub agreed : {F V : Type 0} (number : F → ℕ) → ((f : F) → number f ≤ 255) → (v : List ℕ → Option F) (whole : List ℕ) (texts : List TextRange) (r : Result V Untaken) (es : List Entry) →
+    TakenDown (λ t. number_of number (v t)) whole texts r (only_taken r es) → Agreed (λ t. number_of number (v t)) whole texts r es
+agreed number bound v whole texts (Ok _) es taken =
+    let of = λ (t : List ℕ). number_of number (v t) in (
+      subst (λ (xs : List Entry). SoundBelow whole xs (length xs)) (sym taken.1) (sound_entries of whole texts taken.0),
+      λ k h. ap (λ (xs : List Entry). numbers whole xs (text_at whole (get_or texts k nowhere))) taken.1
+          ∙ agree of (λ t. number_bound number bound (v t)) whole texts k h (taken.0 k h),
+    )
+agreed number bound v whole texts (Err _) es taken = tt

@@ -1,9 +1,11 @@
 -- Laws of recorded verdicts.
-use Rattle.std.proofs.Common.{◌≡◌, ℕ, zero, suc, ◌+◌, ◌<◌, ◌≤◌, true, false, List, [], ◌∷◌, length, get_or, drop, Some, refl, ◌∙◌, arith}
-use Rattle.std.proofs.lemmas.List.{at_drop_more, at_drop_all}
+use Rattle.std.proofs.Common.{◌≡◌, ℕ, zero, suc, ◌<◌, true, false, List, [], ◌∷◌, length, get_or, None, Some, Option, Bool, cond, refl, ◌∙◌, arith}
+use Rattle.std.specs.List.{find}
 use Rattle.std.proofs.lemmas.Bool.{cond-true, cond-false}
 use Rattle.judging.specs.declared.recorded.Entry.{Entry}
-use Rattle.judging.specs.Records.{recorded, fault_of, is_text, blank, unrecorded}
+use Rattle.judging.specs.declared.recorded.RecordedFault.{RecordedFault}
+use Rattle.judging.specs.Entries.{blank}
+use Rattle.judging.specs.Records.{RecordLaws, recorded, fault_of, is_text, unrecorded}
 
 pub decides : (whole : List ℕ) (es : List Entry) (t : List ℕ) (k : ℕ) → k < length es → is_text whole t (get_or es k blank).text ≡ true →
     ((j : ℕ) → j < k → is_text whole t (get_or es j blank).text ≡ false) → recorded whole es t ≡ fault_of (get_or es k blank).verdict
@@ -20,18 +22,18 @@ missing whole (x ∷ es) t b =
     cond-false (is_text whole t x.text) (fault_of x.verdict) (recorded whole es t) (b 0 (omega arith))
     ∙ missing whole es t (λ j l. b (suc j) (omega arith))
 
--- the entry at i decides, or those behind it do
-pub decided_at : (whole : List ℕ) (es : List Entry) (t : List ℕ) (i : ℕ) → i < length es → is_text whole t (get_or es i blank).text ≡ true →
-    recorded whole (drop i es) t ≡ fault_of (get_or es i blank).verdict
-decided_at whole es t i h e =
-    at_drop_more (λ (xs : List Entry). recorded whole xs t) es i blank h
-    ∙ cond-true (is_text whole t (get_or es i blank).text) (fault_of (get_or es i blank).verdict) (recorded whole (drop (i + 1) es) t) e
+pub record_laws : RecordLaws
+record_laws = record { decides = decides; missing = missing }
 
-pub decided_behind : (whole : List ℕ) (es : List Entry) (t : List ℕ) (i : ℕ) → i < length es → is_text whole t (get_or es i blank).text ≡ false →
-    recorded whole (drop i es) t ≡ recorded whole (drop (i + 1) es) t
-decided_behind whole es t i h e =
-    at_drop_more (λ (xs : List Entry). recorded whole xs t) es i blank h
-    ∙ cond-false (is_text whole t (get_or es i blank).text) (fault_of (get_or es i blank).verdict) (recorded whole (drop (i + 1) es) t) e
+-- what the entry that was found says, or that there is none
+abbrev said : Option Entry → Option RecordedFault
+said None = Some unrecorded
+said (Some e) = fault_of e.verdict
 
-pub decided_nowhere : (whole : List ℕ) (es : List Entry) (t : List ℕ) (i : ℕ) → length es ≤ i → recorded whole (drop i es) t ≡ Some unrecorded
-decided_nowhere whole es t i h = at_drop_all (λ (xs : List Entry). recorded whole xs t) es i h
+pub found_first : (whole : List ℕ) (es : List Entry) (t : List ℕ) → recorded whole es t ≡ said (find (λ e. is_text whole t e.text) es)
+found_first whole [] t = refl
+found_first whole (x ∷ es) t = go (is_text whole t x.text) (found_first whole es t) where
+  go : (s : Bool) → recorded whole es t ≡ said (find (λ e. is_text whole t e.text) es) →
+      cond s (fault_of x.verdict) (recorded whole es t) ≡ said (cond s (Some x) (find (λ e. is_text whole t e.text) es))
+  go true rest = refl
+  go false rest = rest

@@ -1,5 +1,7 @@
 -- What holds of any engine, given its verdict on each text.
-use Rattle.std.specs.Prelude.{◌≡◌, ℕ, ◌<◌, true, false, List, length, Some, None, Ok, Err, Option, Result, slice_index_or}
+use Rattle.std.specs.Prelude.{◌≡◌, ℕ, ◌<◌, true, false, List, ◌++◌, length, Some, None, Ok, Err, codes, Option, Result, slice_index_or}
+use Rattle.std.specs.Fmt.{decimal}
+use Rattle.std.specs.Option.{option_map}
 use Rattle.judging.specs.declared.judging.Refused.{Refused}
 use Rattle.judging.specs.declared.judging.Refused.TheVariants.{Outside, Faulty}
 use Rattle.judging.specs.declared.range.TextRange.{TextRange}
@@ -24,3 +26,8 @@ Judged v whole texts (Ok _) = FineBelow v whole texts (length texts)
 Judged v whole texts (Err (Outside n)) = (n < length texts) × FineBelow v whole texts n × (lies (length whole) (slice_index_or texts n nowhere) ≡ false)
 Judged v whole texts (Err (Faulty n f)) =
     (n < length texts) × FineBelow v whole texts n × There whole texts n × (v (text_at whole (slice_index_or texts n nowhere)) ≡ Some f)
+
+-- the refusal in words, with the fault in its own, if it has some
+abbrev pub refused_text : {F : Type 0} → (F → Option (List ℕ)) → Refused F → Option (List ℕ)
+refused_text output (Outside n) = Some (codes "text " ++ decimal n ++ codes " does not lie in the whole")
+refused_text output (Faulty n f) = option_map (λ text. codes "text " ++ decimal n ++ codes ": " ++ text) (output f)

@@ -1,5 +1,8 @@
 -- Recorded verdicts.
-use Rattle.std.specs.Prelude.{◌≡◌, ℕ, ◌<◌, Bool, true, false, cond, ◌||◌, List, [], ◌∷◌, length, get_or, Some, None, Ok, Err, Option, Result, ◌==◌, ◌≢◌, nat_lt, slice_index_or}
+use Rattle.std.specs.Prelude.{◌≡◌, ℕ, zero, suc, ◌<◌, Bool, true, false, cond, List, [], ◌∷◌, ◌++◌, length, get_or, Some, None, Ok, Err, codes, Option, Result, nat_lt}
+use Rattle.std.proofs.Math.Nat.{zero-lt-suc}
+use Rattle.std.specs.Int.NonZero.{non_zero_u8_get}
+use Rattle.std.specs.Fmt.{decimal}
 use Rattle.std.specs.Str.{bytes_eq}
 use Rattle.judging.specs.declared.range.TextRange.{TextRange}
 use Rattle.judging.specs.declared.recorded.Entry.{Entry}
@@ -7,19 +10,29 @@ use Rattle.judging.specs.declared.recorded.RecordedEngine.{RecordedEngine}
 use Rattle.judging.specs.declared.recorded.RecordedFault.{RecordedFault}
 use Rattle.judging.specs.declared.recorded.RecordRefusal.{RecordRefusal}
 use Rattle.judging.specs.declared.recorded.RecordRefusal.TheVariants.{Outside, NoVerdict}
-use Rattle.judging.specs.Ranges.{lies, text_at, nowhere}
+use Rattle.judging.specs.Entries.{blank, SoundBelow}
+use Rattle.judging.specs.Ranges.{lies, text_at}
 
 -- the number of a fault of the record; a number that no fault has counts as unrecorded
 abbrev pub recorded_number : RecordedFault → ℕ
-recorded_number f = cond (f.number == 0 || nat_lt 255 f.number) 255 f.number
+recorded_number f = cond (nat_lt 255 (non_zero_u8_get f.number)) 255 (non_zero_u8_get f.number)
+
+-- the fault in words
+abbrev pub recorded_text : RecordedFault → List ℕ
+recorded_text f = codes "the fault of number " ++ decimal (non_zero_u8_get f.number)
+
+-- the fault of a number, which is not 0
+unfoldable pub fault_number : ℕ → RecordedFault
+fault_number n = record { number = record { value = suc n; ok = zero-lt-suc n } }
 
 -- the fault of a text that is not recorded
 abbrev pub unrecorded : RecordedFault
-unrecorded = record { number = 255 }
+unrecorded = fault_number 254
 
 -- what an entry's number says: 0 that the text is fine
 abbrev pub fault_of : ℕ → Option RecordedFault
-fault_of n = cond (n == 0) None (Some (record { number = n }))
+fault_of zero = None
+fault_of (suc n) = Some (fault_number n)
 
 -- this text stands in the whole at the range
 abbrev pub is_text : List ℕ → List ℕ → TextRange → Bool
@@ -30,22 +43,17 @@ abbrev pub recorded : List ℕ → List Entry → List ℕ → Option RecordedFa
 recorded whole [] t = Some unrecorded
 recorded whole (e ∷ es) t = cond (is_text whole t e.text) (fault_of e.verdict) (recorded whole es t)
 
-abbrev pub blank : Entry
-blank = record { text = nowhere; verdict = 0 }
-
--- an entry that a record may have
-abbrev pub Sound : List ℕ → Entry → Type 0
-Sound whole e = (lies (length whole) e.text ≡ true) × (e.verdict ≢ 255)
-
-abbrev pub SoundBelow : List ℕ → List Entry → ℕ → Type 0
-SoundBelow whole es n = (k : ℕ) → k < n → Sound whole (slice_index_or es k blank)
-
 -- the record of these entries, which are all sound; or the first entry that is not, and why
 abbrev pub Made : List ℕ → List Entry → Result RecordedEngine RecordRefusal → Type 0
 Made whole es (Ok m) = (m.whole.now ≡ whole) × (m.entries.now ≡ es) × SoundBelow whole es (length es)
 Made whole es (Err (Outside n)) = (n < length es) × SoundBelow whole es n × (lies (length whole) (get_or es n blank).text ≡ false)
 Made whole es (Err (NoVerdict n)) =
     (n < length es) × SoundBelow whole es n × (lies (length whole) (get_or es n blank).text ≡ true) × ((get_or es n blank).verdict ≡ 255)
+
+-- the refusal in words
+abbrev pub refusal_text : RecordRefusal → List ℕ
+refusal_text (Outside n) = codes "the text of entry " ++ decimal n ++ codes " does not lie in the whole"
+refusal_text (NoVerdict n) = codes "entry " ++ decimal n ++ codes " has no verdict"
 
 -- What holds of records, in other words than those of the function.
 pub record RecordLaws : Type 0 where

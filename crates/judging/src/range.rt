@@ -20,11 +20,14 @@ impl TextRange {
     pub(crate) fn of(self, whole: &[u8]) -> Option<&[u8]>
         ensures { MatchOption result (lies (length whole.now) self ≡ false) (λ t. (lies (length whole.now) self ≡ true) × (t.now ≡ text_at whole.now self)) }
     {
-        if !self.lies_in(whole.len()) {
-            return None;
-        }
-        let start = self.start;
-        let end = start + self.length;
-        Some(&whole[start..end])
+        whole.get(self.start..)?.get(..self.length)
+    }
+
+    /// The bytes, in a whole that it lies in.
+    pub(crate) fn within(self, whole: &[u8]) -> &[u8]
+        requires { lies (length whole.now) self ≡ true }
+        ensures { result.now ≡ text_at whole.now self }
+    {
+        &whole[self.start..self.start + self.length]
     }
 }

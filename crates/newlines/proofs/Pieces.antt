@@ -1,16 +1,15 @@
 -- Laws of the pieces that are read where a pattern is rewritten for lines without a newline.
-use Rattle.std.proofs.Common.{◌≡◌, ℕ, pred, Bool, true, false, cond, List, [], ◌∷◌, ◌++◌, length, drop, sym, refl, ap, ◌∙◌, arith, length-drop}
+use Rattle.std.proofs.Common.{◌≡◌, ℕ, pred, ◌<◌, Bool, true, false, cond, List, [], ◌∷◌, ◌++◌, length, drop, sym, refl, ap, ◌∙◌, arith, length-drop}
 use Rattle.std.specs.List.{flat_map}
 use Rattle.std.proofs.lemmas.Bool.{cond-true, cond-false}
 use borrow.Author.Tests.{clash}
 use Rattle.tokens.specs.declared.parser.Token.{Token as Read}
-use Rattle.newlines.specs.declared.newlines.Piece.TheVariants.{OptionalNewline, Token as Tokened}
-use Rattle.tokens.specs.Cut.{past_front, Honest}
+use Rattle.tokens.specs.Cursor.{front}
+use Rattle.tokens.specs.Cut.{Honest}
 use Rattle.tokens.specs.Starts.{starts}
 use Rattle.tokens.specs.Reads.{meant, Taken}
-use Rattle.newlines.specs.Pieces.{TakenPiece}
 use Rattle.tokens.specs.Tokens.{first}
-use Rattle.newlines.specs.Newlines.{Piece, optional, token, optional_newline, spelled_piece, first_piece, pieces}
+use Rattle.newlines.specs.Newlines.{Piece, optional, token, optional_newline, spelled_piece, first_piece, pieces, without_newline, without_newlines, for_no_newlines}
 use Rattle.tokens.proofs.Cut.{cut_nil, cut_cons, cut_joined}
 use Rattle.tokens.proofs.Starts.{starts_split}
 use Rattle.tokens.proofs.Tokens.{honest_first, taken_first}
@@ -31,28 +30,31 @@ pieces_joined = cut_joined first_piece spelled_piece honest_piece
 pub no_pieces : (bs : List ℕ) → bs ≡ [] → pieces bs ≡ []
 no_pieces bs e = ap pieces e ∙ cut_nil first_piece spelled_piece
 
-pub taken_optional : (xs ys : List ℕ) → starts optional_newline xs ≡ true → ys ≡ drop 7 xs → TakenPiece OptionalNewline xs ys
-unfolding first_piece
-taken_optional [] ys e l = absurd (clash e)
-taken_optional (x ∷ xs) ys e l =
-    let here : first_piece (x ∷ xs) ≡ optional = cond-true (starts optional_newline (x ∷ xs)) optional (token (first (x ∷ xs))) e in
-    let past : past_front first_piece spelled_piece x xs ≡ ys = ap (λ (p : Piece). drop (pred (length (spelled_piece p))) xs) here ∙ sym l in
-    record {
-      heads = cut_cons first_piece spelled_piece x xs ∙ ap (λ (p : Piece). p ∷ pieces (past_front first_piece spelled_piece x xs)) here ∙ ap (λ (zs : List ℕ). optional ∷ pieces zs) past;
-      shorter = omega (arith, simp length-drop at (ap length l));
-      told = tt;
-    }
+-- the piece at the front, and those of what it leaves
+pieces_step : (x : ℕ) (xs ys : List ℕ) (p : Piece) → first_piece (x ∷ xs) ≡ p → ys ≡ drop (pred (length (spelled_piece p))) xs → pieces (x ∷ xs) ≡ p ∷ pieces ys
+pieces_step x xs ys p is left =
+    cut_cons first_piece spelled_piece x xs
+    ∙ ap (λ q. q ∷ pieces (drop (pred (length (spelled_piece q))) xs)) is ∙ ap (λ zs. p ∷ pieces zs) (sym left)
 
-pub taken_token : (t : Read) (xs ys : List ℕ) → starts optional_newline xs ≡ false → Taken t xs ys → TakenPiece (Tokened t) xs ys
+-- what the piece at the front adds, by the byte that is seen behind it
+written : (xs ys : List ℕ) (p : Piece) → pieces xs ≡ p ∷ pieces ys → for_no_newlines xs ≡ without_newline p (front ys) ++ for_no_newlines ys
+written xs ys p heads = ap without_newlines heads ∙ ap (λ next. without_newline p next ++ for_no_newlines ys) (ap front (pieces_joined ys))
+
+-- Behind `(?:\n)?`,
+pub past_optional : (xs ys : List ℕ) → starts optional_newline xs ≡ true → ys ≡ drop 7 xs →
+    (length ys < length xs) × (for_no_newlines xs ≡ without_newline optional (front ys) ++ for_no_newlines ys)
 unfolding first_piece
-taken_token t [] ys e w = absurd (omega (arith, w.shorter))
-taken_token t (x ∷ xs) ys e w =
-    let is : first (x ∷ xs) ≡ meant t = (taken_first t x xs ys w).0 in
-    let here : first_piece (x ∷ xs) ≡ token (first (x ∷ xs)) = cond-false (starts optional_newline (x ∷ xs)) optional (token (first (x ∷ xs))) e in
-    let past : past_front first_piece spelled_piece x xs ≡ ys = ap (λ (p : Piece). drop (pred (length (spelled_piece p))) xs) here ∙ sym (taken_first t x xs ys w).1 in
-    record {
-      heads = cut_cons first_piece spelled_piece x xs ∙ ap (λ (p : Piece). p ∷ pieces (past_front first_piece spelled_piece x xs)) (here ∙ ap token is)
-          ∙ ap (λ (zs : List ℕ). token (meant t) ∷ pieces zs) past;
-      shorter = w.shorter;
-      told = w.told;
-    }
+past_optional [] ys e l = absurd (clash e)
+past_optional (x ∷ xs) ys e l =
+    (omega (arith, simp length-drop at (ap length l)), written (x ∷ xs) ys optional (pieces_step x xs ys optional (cond-true (starts optional_newline (x ∷ xs)) _ _ e) l))
+
+-- and behind any other token.
+pub past_other : (t : Read) (xs ys : List ℕ) → starts optional_newline xs ≡ false → Taken t xs ys →
+    for_no_newlines xs ≡ without_newline (token (meant t)) (front ys) ++ for_no_newlines ys
+unfolding first_piece
+past_other t [] ys e w = absurd (omega (arith, w.shorter))
+past_other t (x ∷ xs) ys e w =
+    let is = taken_first t x xs ys w in
+    written (x ∷ xs) ys (token (meant t))
+    (pieces_step x xs ys (token (meant t)) (cond-false (starts optional_newline (x ∷ xs)) _ _ e ∙ ap token is.0)
+    (is.1 ∙ ap (λ q. drop (pred (length (spelled_piece (token q)))) xs) is.0))

@@ -1,15 +1,28 @@
-ghost use Rattle.std.specs.Prelude.{◌≡◌, ◌++◌, codes};
+ghost use Rattle.std.specs.Prelude.{◌≡◌, length};
+ghost use Rattle.std.specs.List.{flat_map};
 ghost use Rattle.buffer.specs.Appends.{Appended};
-ghost use Rattle.newlines.specs.Newlines.{for_newlines, for_no_newlines, repeats, with_newline, without_newline};
-ghost use Rattle.newlines.specs.Pieces.{NextPiece, Right, meant_piece};
-ghost use Rattle.tokens.specs.Reads.{meant};
-ghost use Rattle.tokens.specs.Tokens.{spelled};
+ghost use Rattle.newlines.specs.Newlines.{for_newlines, for_no_newlines, repeats, token_without, with_newline};
+ghost use Rattle.tokens.specs.Reads.{meant, Told};
 
-use buffer::{Buffer, LIMIT, TooLong};
+use buffer::{Buffer, Pieces, TooLong};
 use tokens::{Parser, Token, write_token};
 
+/// What is left of a pattern, written token by token for lines that end with a newline.
+#[derive(Clone, Copy)]
+struct ForNewlines<'a>(Parser<'a>);
+
+impl Pieces<u8> for ForNewlines<'_> {
+    ghost left = { λ s. for_newlines s.0.rest.now };
+
+    ghost size = { λ s. length s.0.rest.now };
+
+    fn write_next(&mut self, out: &mut Buffer<u8>) -> Option<Result<(), TooLong>> {
+        Some(write_for_newlines(self.0.token()?, out))
+    }
+}
+
 fn write_for_newlines(token: Token, out: &mut Buffer<u8>) -> Result<(), TooLong>
-    ensures { Appended out.old.items.items (with_newline (meant token.entry)) result out.new.items.items }
+    ensures { Appended out.old (with_newline (meant token.entry)) result out.new }
 {
     match token {
         Token::Plain(b'$') => out.extend(b"(?m:$)"),
@@ -19,37 +32,45 @@ fn write_for_newlines(token: Token, out: &mut Buffer<u8>) -> Result<(), TooLong>
 
 /// Rewrites a pattern for lines that end with a newline: a `$` matches before that newline.
 pub fn regex_for_newlines(regex: &[u8], out: &mut Buffer<u8>) -> Result<(), TooLong>
-    ensures { Appended out.old.items.items (for_newlines regex.now) result out.new.items.items }
+    ensures { Appended out.old (for_newlines regex.now) result out.new }
 {
-    let before = out.len();
-    let mut tokens = Parser::new(regex);
-    while let Some(token) = tokens.token() {
-        if let Err(refusal) = write_for_newlines(token, out) {
-            out.truncate(before);
-            return Err(refusal);
-        }
-    }
-    Ok(())
+    out.write_pieces(ForNewlines(Parser::new(regex)))
 }
 
-/// What the rewriting for lines without a newline reads at a time.
+/// What is left of a pattern, written piece by piece for lines that end without a newline.
 #[derive(Clone, Copy)]
-enum Piece<'a> {
-    /// `(?:\n)?`
-    OptionalNewline,
-    Token(Token<'a>),
+struct ForNoNewlines<'a>(Parser<'a>);
+
+impl Pieces<u8> for ForNoNewlines<'_> {
+    ghost left = { λ s. for_no_newlines s.0.rest.now };
+
+    ghost size = { λ s. length s.0.rest.now };
+
+    fn write_next(&mut self, out: &mut Buffer<u8>) -> Option<Result<(), TooLong>> {
+        if self.0.eat(b"(?:\\n)?") {
+            return Some(out.extend(b"(?:$|)"));
+        }
+        let token = self.0.token()?;
+        Some(write_for_no_newlines(token, self.0.peek(), out))
+    }
 }
 
-/// Reads the piece that stands here; none at the end.
-fn read_piece<'a>(parser: &mut Parser<'a>) -> Option<Piece<'a>>
-    ensures { NextPiece result parser.old.rest.now parser.new.rest.now }
+/// Writes a token; `next` is the byte behind it.
+fn write_for_no_newlines(
+    token: Token,
+    next: Option<u8>,
+    out: &mut Buffer<u8>,
+) -> Result<(), TooLong>
+    requires { Told token }
+    ensures { Appended out.old (token_without (meant token.entry) next) result out.new }
 {
-    if parser.eat(b"(?:\\n)?") {
-        return Some(Piece::OptionalNewline);
-    }
-    match parser.token() {
-        Some(token) => Some(Piece::Token(token)),
-        None => None,
+    match token {
+        Token::Escape(b'n') if !is_repeat(next) => out.push(b'$'),
+        Token::Class {
+            text,
+            matches_newline: true,
+        } if next != Some(b'?') => out.write_pieces(Texts(&[b"(?:", text, b"|$)"])),
+        _ => write_token(token, out),
     }
 }
 
@@ -60,51 +81,27 @@ fn is_repeat(next: Option<u8>) -> bool
     matches!(next, Some(b'?' | b'+' | b'*'))
 }
 
-/// Writes a class that matches the end of the line too.
-fn write_class_or_end(class: &[u8], out: &mut Buffer<u8>) -> Result<(), TooLong>
-    ensures { Appended out.old.items.items (codes "(?:" ++ (class.now ++ codes "|$)")) result out.new.items.items }
-{
-    if class.len() + 6 > LIMIT - out.len() {
-        return Err(TooLong);
-    }
-    out.extend(b"(?:")?;
-    out.extend(class)?;
-    out.extend(b"|$)")
-}
+/// Texts that are written one behind the other.
+#[derive(Clone, Copy)]
+struct Texts<'a>(&'a [&'a [u8]]);
 
-/// Writes a piece; `next` is the byte behind it.
-fn write_for_no_newlines(
-    piece: Piece,
-    next: Option<u8>,
-    out: &mut Buffer<u8>,
-) -> Result<(), TooLong>
-    requires { Right piece }
-    ensures { Appended out.old.items.items (without_newline (meant_piece piece.entry) next) result out.new.items.items }
-{
-    match piece {
-        Piece::OptionalNewline => out.extend(b"(?:$|)"),
-        Piece::Token(Token::Escape(b'n')) if !is_repeat(next) => out.push(b'$'),
-        Piece::Token(
-            Token::Class {
-                text,
-                matches_newline: true,
-            },
-        ) if next != Some(b'?') => { write_class_or_end(text, out) }
-        Piece::Token(token) => write_token(token, out),
+impl Pieces<u8> for Texts<'_> {
+    ghost left = { λ s. flat_map (λ text. text.now) s.0.now };
+
+    ghost size = { λ s. length s.0.now };
+
+    fn write_next(&mut self, out: &mut Buffer<u8>) -> Option<Result<(), TooLong>> {
+        let [text, others @ ..] = self.0 else {
+            return None;
+        };
+        self.0 = others;
+        Some(out.extend(text))
     }
 }
 
 /// Rewrites a pattern for lines that end without a newline: `$` stands where a newline was to match.
 pub fn regex_for_no_newlines(regex: &[u8], out: &mut Buffer<u8>) -> Result<(), TooLong>
-    ensures { Appended out.old.items.items (for_no_newlines regex.now) result out.new.items.items }
+    ensures { Appended out.old (for_no_newlines regex.now) result out.new }
 {
-    let before = out.len();
-    let mut pieces = Parser::new(regex);
-    while let Some(piece) = read_piece(&mut pieces) {
-        if let Err(refusal) = write_for_no_newlines(piece, pieces.peek(), out) {
-            out.truncate(before);
-            return Err(refusal);
-        }
-    }
-    Ok(())
+    out.write_pieces(ForNoNewlines(Parser::new(regex)))
 }

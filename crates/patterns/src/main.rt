@@ -4,24 +4,21 @@
 
 mod scan;
 
-use scan::{PatternScan, Verdict};
+use scan::{Features, PatternScan, Refusal};
 use std::io;
 use std::io::{BufRead, BufReader, BufWriter, Write};
 
 /// A line without the newline that ends it.
 fn without_newline(line: &[u8]) -> &[u8] {
-    match line {
-        [pattern @ .., b'\n'] => pattern,
-        _ => line,
-    }
+    line.strip_suffix(b"\n").unwrap_or(line)
 }
 
 fn write_captures<W: Write>(captures: &[usize], out: &mut W) -> io::Result<()> {
-    for (i, number) in captures.iter().enumerate() {
-        if i > 0 {
-            out.write_all(b",")?;
+    if let [first, others @ ..] = captures {
+        write!(out, "{first}")?;
+        for number in others {
+            write!(out, ",{number}")?;
         }
-        write!(out, "{number}")?;
     }
     Ok(())
 }
@@ -29,27 +26,22 @@ fn write_captures<W: Write>(captures: &[usize], out: &mut W) -> io::Result<()> {
 /// Writes the six fields of a pattern.
 fn write_fields<W: Write>(
     pattern: &[u8],
-    verdict: Verdict,
+    answer: Result<Features, Refusal>,
     scan: &PatternScan,
     out: &mut W,
 ) -> io::Result<()> {
     out.write_all(pattern)?;
-    out.write_all(b"\t")?;
-    match verdict {
-        Verdict::Fine { backrefs } => {
-            out.write_all(scan.with_newlines())?;
-            out.write_all(b"\t")?;
-            out.write_all(scan.without_newlines())?;
+    match answer {
+        Ok(Features { backrefs }) => {
+            for text in [scan.with_newlines(), scan.without_newlines()] {
+                out.write_all(b"\t")?;
+                out.write_all(text)?;
+            }
             out.write_all(b"\t")?;
             write_captures(scan.captures(), out)?;
-            out.write_all(if backrefs {
-                b"\tbackref\tok\n"
-            } else {
-                b"\t-\tok\n"
-            })
+            writeln!(out, "\t{}\tok", if backrefs { "backref" } else { "-" })
         }
-        Verdict::TooLong => out.write_all(b"-\t-\t-\t-\ttoo long\n"),
-        Verdict::NotUtf8 => out.write_all(b"-\t-\t-\t-\tnot UTF-8\n"),
+        Err(refusal) => writeln!(out, "\t-\t-\t-\t-\t{refusal}"),
     }
 }
 
@@ -59,14 +51,15 @@ fn run(rt: &HostRuntime) -> anyhow::Result<()> {
     let mut input = BufReader::new(heap, rt.stdin())?;
     let mut output = BufWriter::new(heap, rt.stdout())?;
     let mut line = Vec::new(heap);
+    // The standard library's lines are UTF-8, which these need not be.
     for _ in 0..u64::MAX {
         line.clear();
         if input.read_until(b'\n', &mut line)? == 0 {
             break;
         }
         let pattern = without_newline(line.as_slice());
-        let verdict = scan.read(pattern);
-        write_fields(pattern, verdict, &scan, &mut output)?;
+        let answer = scan.read(pattern);
+        write_fields(pattern, answer, &scan, &mut output)?;
     }
     output.flush()?;
     Ok(())

@@ -1,28 +1,25 @@
 -- A rewriting leaves the bytes of a comment as they are.
-use Rattle.std.proofs.Common.{◌≡◌, ℕ, Bool, true, false, cond, eqb, List, [], ◌∷◌, ◌++◌, take, Some, None, sym, refl, ap, ◌∙◌, subst, ⊎_elim}
+use Rattle.std.proofs.Common.{◌≡◌, ℕ, true, false, List, [], ◌∷◌, ◌++◌, take, Some, None, sym, refl, ap, ◌∙◌, subst, ⊎_elim}
 use Rattle.std.specs.List.{flat_map, AllByRecursion}
 use Rattle.std.proofs.lemmas.List.{append_assoc}
-use Rattle.std.proofs.lemmas.Bool.{cases_eq}
+use Rattle.std.proofs.lemmas.Bool.{cases_eq, cond_both}
+use Rattle.std.proofs.lemmas.Grind.{flat_map-append}
+use Rattle.scanner.proofs.Fronts.{token_cases}
 use borrow.Author.Tests.{clash}
-use Rattle.tokens.specs.Classes.{opened}
 use Rattle.tokens.specs.Cursor.{front}
 use Rattle.scanner.specs.Laws.{NewlinesKeepComments, NoNewlinesKeepComments, PropertiesKeepComments}
 use Rattle.newlines.specs.Newlines.{Piece, optional, token, optional_newline, spelled_piece, first_piece, pieces, with_newline, without_newline, without_newlines}
 use Rattle.tokens.specs.Posix.{token_with_properties}
 use Rattle.tokens.specs.Starts.{starts}
-use Rattle.tokens.specs.Tokens.{escape, final, class, comment, plain, first, escaping, opens_comment, class_length, comment_length}
+use Rattle.tokens.specs.Tokens.{escape, final, class, comment, plain, opens_comment, comment_length}
 use Rattle.tokens.proofs.CutEach.{each_cut}
 use Rattle.tokens.proofs.Tokens.{none_some, commented, not_comment}
 
-joined_append : {A : Type 0} (f : A → List ℕ) (xs ys : List A) → flat_map f (xs ++ ys) ≡ flat_map f xs ++ flat_map f ys
-joined_append f [] ys = refl
-joined_append f (x ∷ xs) ys = ap (λ (zs : List ℕ). f x ++ zs) (joined_append f xs ys) ∙ sym (append_assoc (f x) (flat_map f xs) (flat_map f ys))
-
 pub newlines_keep_comments : NewlinesKeepComments
-newlines_keep_comments bs cs ts us e = ap (flat_map with_newline) e ∙ joined_append with_newline ts (comment cs ∷ us)
+newlines_keep_comments bs cs ts us e = ap (flat_map with_newline) e ∙ flat_map-append with_newline ts (comment cs ∷ us)
 
 pub properties_keep_comments : PropertiesKeepComments
-properties_keep_comments bs cs ts us e = ap (flat_map token_with_properties) e ∙ joined_append token_with_properties ts (comment cs ∷ us)
+properties_keep_comments bs cs ts us e = ap (flat_map token_with_properties) e ∙ flat_map-append token_with_properties ts (comment cs ∷ us)
 
 -- A comment begins with a `(`, which is no repeat for the piece before it.
 abbrev Opens : Piece → Type 0
@@ -39,19 +36,10 @@ comment_opens b bs e =
     ∙ ⊎_elim (λ (is : b ≡ 40). ap Some is) (λ ne. absurd (clash (sym (not_comment (b ∷ bs) b refl ne) ∙ e))) (cases_eq b 40)
 
 piece_opens : (b : ℕ) (bs : List ℕ) → Unit {0} → Opens (first_piece (b ∷ bs))
-unfolding first_piece first
-piece_opens b bs _ = go (starts optional_newline (b ∷ bs)) (eqb b 92) bs (eqb b 91) (opens_comment (b ∷ bs)) refl where
-  shape : Bool → Bool → List ℕ → Bool → Bool → Piece
-  shape o s ys t u =
-      cond o optional (token (cond s (escaping ys) (cond t (class (b ∷ take (class_length opened bs) bs)) (cond u (comment (take (comment_length false (b ∷ bs)) (b ∷ bs))) (plain b)))))
-
-  go : (o s : Bool) (ys : List ℕ) (t u : Bool) → opens_comment (b ∷ bs) ≡ u → Opens (shape o s ys t u)
-  go true s ys t u e = tt
-  go false true [] t u e = tt
-  go false true (y ∷ ys) t u e = tt
-  go false false ys true u e = tt
-  go false false ys false true e = comment_opens b bs e
-  go false false ys false false e = tt
+unfolding first_piece
+piece_opens b bs _ =
+    cond_both (starts optional_newline (b ∷ bs)) _ _ Opens (λ _. tt)
+    (λ _. token_cases (λ t. Opens (token t)) b bs (λ _ _ _ _. tt) tt (λ _. tt) (comment_opens b bs) tt)
 
 in_middle : {A : Type 0} (Q : A → Type 0) (xs : List A) (y : A) (zs : List A) → AllByRecursion Q (xs ++ y ∷ zs) → Q y
 in_middle Q [] y zs a = a.0
@@ -75,7 +63,7 @@ before_opening p [] ys e = ap (without_newline p) e ∙ go p where
 without_append : (ps qs : List Piece) → front (flat_map spelled_piece qs) ≡ Some 40 → without_newlines (ps ++ qs) ≡ without_newlines ps ++ without_newlines qs
 without_append [] qs e = refl
 without_append (p ∷ ps) qs e =
-    ap (λ (xs : List ℕ). without_newline p (front xs) ++ without_newlines (ps ++ qs)) (joined_append spelled_piece ps qs)
+    ap (λ (xs : List ℕ). without_newline p (front xs) ++ without_newlines (ps ++ qs)) (flat_map-append spelled_piece ps qs)
     ∙ ap (λ (xs : List ℕ). xs ++ without_newlines (ps ++ qs)) (before_opening p (flat_map spelled_piece ps) (flat_map spelled_piece qs) e)
     ∙ ap (λ (xs : List ℕ). without_newline p (front (flat_map spelled_piece ps)) ++ xs) (without_append ps qs e)
     ∙ sym (append_assoc (without_newline p (front (flat_map spelled_piece ps))) (without_newlines ps) (without_newlines qs))

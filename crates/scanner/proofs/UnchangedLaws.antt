@@ -1,8 +1,8 @@
 -- Patterns that a rewriting leaves as they are.
-use Rattle.std.proofs.Common.{◌≡◌, ℕ, pred, ◌+◌, ◌<◌, min, Bool, true, false, cond, eqb, List, [], ◌∷◌, ◌++◌, length, get_or, take, drop, Some, None, Option, sym, refl, ap, ◌∙◌, subst, ⊎_elim, arith, length-drop, length-take}
+use Rattle.std.proofs.Common.{◌≡◌, ℕ, pred, ◌+◌, ◌<◌, min, Bool, true, false, cond, eqb, List, [], ◌∷◌, ◌++◌, length, get_or, take, drop, Some, Option, sym, refl, ap, ◌∙◌, subst, ⊎_elim, arith, length-drop, length-take}
 use Rattle.std.specs.List.{flat_map, AllByRecursion}
 use Rattle.std.proofs.lemmas.List.{get_or-drop, get_or-take}
-use Rattle.std.proofs.lemmas.Bool.{cond-false, cond_both, eqb-true, ne_eqb, cases_eq, and_left, or_from}
+use Rattle.std.proofs.lemmas.Bool.{cond-false, cond_both, ne_eqb, cases_eq, and_left, or_from}
 use borrow.Author.Tests.{clash}
 use Rattle.tokens.specs.declared.class.ClassState.{ClassState}
 use Rattle.tokens.specs.declared.class.ClassState.TheVariants.{Start, Negated, Inside, Escaped}
@@ -13,15 +13,15 @@ use Rattle.tokens.specs.Classes.{opened, bare, from, stepped, closes}
 use Rattle.tokens.specs.Cut.{Honest}
 use Rattle.scanner.specs.Laws.{Without, Apart, NewlinesUnchanged, NoNewlinesUnchanged, PropertiesUnchanged}
 use Rattle.newlines.specs.Newlines.{Piece, optional, token, optional_newline, spelled_piece, first_piece, pieces, with_newline, token_without, without_newline, without_newlines}
-use Rattle.tokens.specs.Posix.{Member, bracket_of, bracket_at, bracket_or, spelled_member, first_member, members, with_property, token_with_properties, is_escaped}
-use Rattle.tokens.specs.Posix.{single as singleMember, escaped_or as escapedMemberOr}
+use Rattle.tokens.specs.Posix.{bracket_of, bracket_at, spelled_member, first_member, members, with_property, token_with_properties, is_escaped}
 use Rattle.tokens.specs.Starts.{starts}
-use Rattle.tokens.specs.Tokens.{Token, class, comment, plain, spelled, first, tokens, escaping, opens_comment, class_length, comment_length, newline_in}
+use Rattle.tokens.specs.Tokens.{spelled, first, tokens, class_length, newline_in}
 use Rattle.tokens.proofs.Classes.{newline_taken}
 use Rattle.tokens.proofs.Cut.{cut_joined}
 use Rattle.tokens.proofs.CutEach.{each_cut, joined_same}
 use Rattle.newlines.proofs.Pieces.{pieces_joined}
 use Rattle.tokens.proofs.PosixLaws.{bracket_split, still_bare}
+use Rattle.scanner.proofs.Fronts.{token_cases, member_cases}
 use Rattle.tokens.proofs.Starts.{starts_split}
 use Rattle.tokens.proofs.Tokens.{tokens_joined}
 
@@ -40,17 +40,9 @@ apart_take a b n bs w k h e f =
 
 -- a token that is not `$` stays
 newline_kept : (b : ℕ) (bs : List ℕ) → Without 36 (b ∷ bs) → with_newline (first (b ∷ bs)) ≡ spelled (first (b ∷ bs))
-unfolding first
-newline_kept b bs w = go (eqb b 92) bs (eqb b 91) (opens_comment (b ∷ bs)) where
-  shape : Bool → List ℕ → Bool → Bool → Token
-  shape s ys t u = cond s (escaping ys) (cond t (class (b ∷ take (class_length opened bs) bs)) (cond u (comment (take (comment_length false (b ∷ bs)) (b ∷ bs))) (plain b)))
-
-  go : (s : Bool) (ys : List ℕ) (t u : Bool) → with_newline (shape s ys t u) ≡ spelled (shape s ys t u)
-  go true [] t u = refl
-  go true (y ∷ ys) t u = refl
-  go false ys true u = refl
-  go false ys false true = refl
-  go false ys false false = cond-false (eqb b 36) _ (b ∷ []) (ne_eqb b 36 (w 0 (omega arith)))
+newline_kept b bs w =
+    token_cases (λ t. with_newline t ≡ spelled t) b bs (λ _ _ _ _. refl) refl (λ _. refl) (λ _. refl)
+    (cond-false (eqb b 36) _ (b ∷ []) (ne_eqb b 36 (w 0 (omega arith))))
 
 pub newlines_unchanged : NewlinesUnchanged
 newlines_unchanged bs w =
@@ -85,18 +77,11 @@ newline_free w (b ∷ bs) e a n =
 
 -- a token stays where no `\n` stands
 token_kept : (b : ℕ) (bs : List ℕ) → Apart 92 110 (b ∷ bs) → (next : Option ℕ) → token_without (first (b ∷ bs)) next ≡ spelled (first (b ∷ bs))
-unfolding first
-token_kept b bs a next = go (eqb b 92) refl bs a (eqb b 91) (opens_comment (b ∷ bs)) where
-  shape : Bool → List ℕ → Bool → Bool → Token
-  shape s ys t u = cond s (escaping ys) (cond t (class (b ∷ take (class_length opened bs) bs)) (cond u (comment (take (comment_length false (b ∷ bs)) (b ∷ bs))) (plain b)))
-
-  go : (s : Bool) → eqb b 92 ≡ s → (ys : List ℕ) → Apart 92 110 (b ∷ ys) → (t u : Bool) → token_without (shape s ys t u) next ≡ spelled (shape s ys t u)
-  go true e [] k t u = refl
-  go true e (y ∷ ys) k t u = cond-false _ _ _ (and_left (eqb y 110) _ (ne_eqb y 110 (k 0 (omega arith) (eqb-true b 92 e))))
-  go false e ys k true u =
-      cond-false _ _ _ (and_left _ _ (newline_taken opened bs ∙ newline_free opened bs refl (apart_drop 92 110 1 (b ∷ bs) a) (λ s. absurd (clash s))))
-  go false e ys k false true = refl
-  go false e ys k false false = refl
+token_kept b bs a next =
+    token_cases (λ t. token_without t next ≡ spelled t) b bs
+    (λ c cs is e. cond-false _ _ _ (and_left (eqb c 110) _ (ne_eqb c 110 (subst (λ ys. Apart 92 110 (b ∷ ys)) e a 0 (omega arith) is)))) refl
+    (λ _. cond-false _ _ _ (and_left _ _ (newline_taken opened bs ∙ newline_free opened bs refl (apart_drop 92 110 1 (b ∷ bs) a) (λ s. absurd (clash s)))))
+    (λ _. refl) refl
 
 piece_kept : (b : ℕ) (bs : List ℕ) → Apart 92 110 (b ∷ bs) → (next : Option ℕ) → without_newline (first_piece (b ∷ bs)) next ≡ spelled_piece (first_piece (b ∷ bs))
 unfolding first_piece
@@ -127,22 +112,10 @@ honest_bracket Lower b bs e = sym (bracket_split (b ∷ bs) Lower e)
 honest_bracket Upper b bs e = sym (bracket_split (b ∷ bs) Upper e)
 honest_bracket Digit b bs e = sym (bracket_split (b ∷ bs) Digit e)
 
-honest_escaped : (b : ℕ) (bs : List ℕ) → b ≡ 92 → spelled_member (escapedMemberOr bs b) ++ drop (pred (length (spelled_member (escapedMemberOr bs b)))) bs ≡ b ∷ bs
-honest_escaped b [] e = refl
-honest_escaped b (c ∷ bs) e = ap (λ (x : ℕ). x ∷ c ∷ bs) (sym e)
-
 pub honest_member : Honest first_member spelled_member
-unfolding first_member
-honest_member b bs = go (eqb b 92) refl (eqb b 91) (bracket_at (b ∷ bs)) refl where
-  shape : Bool → Bool → Option PosixClass → Member
-  shape s t o = cond s (escapedMemberOr bs b) (cond t (bracket_or o b) (singleMember b))
-
-  go : (s : Bool) → eqb b 92 ≡ s → (t : Bool) (o : Option PosixClass) → bracket_at (b ∷ bs) ≡ o →
-      spelled_member (shape s t o) ++ drop (pred (length (spelled_member (shape s t o)))) bs ≡ b ∷ bs
-  go true e t o f = honest_escaped b bs (eqb-true b 92 e)
-  go false e true None f = refl
-  go false e true (Some p) f = honest_bracket p b bs f
-  go false e false o f = refl
+honest_member b bs =
+    member_cases (λ m. spelled_member m ++ drop (pred (length (spelled_member m))) bs ≡ b ∷ bs) b bs
+    (λ c cs is e. ap (λ ys. 92 ∷ c ∷ drop 1 ys) e ∙ ap (λ x. x ∷ c ∷ cs) (sym is) ∙ ap (λ ys. b ∷ ys) (sym e)) (λ p. honest_bracket p b bs) refl
 
 pub members_joined : (bs : List ℕ) → flat_map spelled_member (members bs) ≡ bs
 members_joined = cut_joined first_member spelled_member honest_member
@@ -156,17 +129,9 @@ no_bracket Upper bs a = a 0 (omega arith) refl refl
 no_bracket Digit bs a = a 0 (omega arith) refl refl
 
 member_kept : (b : ℕ) (bs : List ℕ) → Apart 91 58 (b ∷ bs) → with_property (first_member (b ∷ bs)) ≡ spelled_member (first_member (b ∷ bs))
-unfolding first_member
-member_kept b bs a = go (eqb b 92) bs (eqb b 91) (bracket_at (b ∷ bs)) refl where
-  shape : Bool → List ℕ → Bool → Option PosixClass → Member
-  shape s ys t o = cond s (escapedMemberOr ys b) (cond t (bracket_or o b) (singleMember b))
-
-  go : (s : Bool) (ys : List ℕ) (t : Bool) (o : Option PosixClass) → bracket_at (b ∷ bs) ≡ o → with_property (shape s ys t o) ≡ spelled_member (shape s ys t o)
-  go true [] t o e = refl
-  go true (y ∷ ys) t o e = refl
-  go false ys true None e = refl
-  go false ys true (Some p) e = absurd (no_bracket p (drop 9 (b ∷ bs)) (subst (Apart 91 58) (bracket_split (b ∷ bs) p e) a))
-  go false ys false o e = refl
+member_kept b bs a =
+    member_cases (λ m. with_property m ≡ spelled_member m) b bs (λ _ _ _ _. refl)
+    (λ p e. absurd (no_bracket p (drop 9 (b ∷ bs)) (subst (Apart 91 58) (bracket_split (b ∷ bs) p e) a))) refl
 
 members_kept : (bs : List ℕ) → Apart 91 58 bs → flat_map with_property (members bs) ≡ bs
 members_kept bs a =
@@ -175,18 +140,10 @@ members_kept bs a =
     ∙ members_joined bs
 
 property_kept : (b : ℕ) (bs : List ℕ) → Apart 91 58 (b ∷ bs) → token_with_properties (first (b ∷ bs)) ≡ spelled (first (b ∷ bs))
-unfolding first
-property_kept b bs a = go (eqb b 92) bs (eqb b 91) (opens_comment (b ∷ bs)) where
-  shape : Bool → List ℕ → Bool → Bool → Token
-  shape s ys t u = cond s (escaping ys) (cond t (class (b ∷ take (class_length opened bs) bs)) (cond u (comment (take (comment_length false (b ∷ bs)) (b ∷ bs))) (plain b)))
-
-  go : (s : Bool) (ys : List ℕ) (t u : Bool) → token_with_properties (shape s ys t u) ≡ spelled (shape s ys t u)
-  go true [] t u = refl
-  go true (y ∷ ys) t u = refl
-  go false ys true u =
-      ap (λ (xs : List ℕ). b ∷ xs) (members_kept (take (class_length opened bs) bs) (apart_take 91 58 (class_length opened bs) bs (apart_drop 91 58 1 (b ∷ bs) a)))
-  go false ys false true = refl
-  go false ys false false = refl
+property_kept b bs a =
+    token_cases (λ t. token_with_properties t ≡ spelled t) b bs (λ _ _ _ _. refl) refl
+    (λ _. ap (λ (xs : List ℕ). b ∷ xs) (members_kept (take (class_length opened bs) bs) (apart_take 91 58 (class_length opened bs) bs (apart_drop 91 58 1 (b ∷ bs) a))))
+    (λ _. refl) refl
 
 pub properties_unchanged : PropertiesUnchanged
 properties_unchanged bs a =

@@ -2,7 +2,8 @@
 use Rattle.std.proofs.Common.{◌≡◌, ℕ, suc, pred, Bool, true, false, cond, not, ◌&&◌, eqb, ◌⊎◌, List, [], ◌∷◌, ◌++◌, length, take, drop, codes, Option, sym, refl, ap, subst, inl, inr, arith, length-take}
 use Rattle.std.specs.List.{flat_map}
 use Rattle.std.proofs.lemmas.List.{append_assoc}
-use Rattle.std.proofs.lemmas.Bool.{eqb-true, and_parts}
+use Rattle.std.proofs.lemmas.Bool.{eqb-true, and_parts, cond_both}
+use Rattle.scanner.proofs.Fronts.{token_cases}
 use borrow.Author.Tests.{clash}
 use Rattle.tokens.specs.declared.class.ClassState.{ClassState}
 use Rattle.tokens.specs.declared.class.ClassState.TheVariants.{Start, Negated, Inside, Escaped}
@@ -15,7 +16,7 @@ use Rattle.scanner.specs.Laws.{NewlinesUtf8, NoNewlinesUtf8, PropertiesUtf8}
 use Rattle.newlines.specs.Newlines.{Piece, optional, token, optional_newline, spelled_piece, first_piece, with_newline, for_newlines, is, repeats, without_newline, without_newlines, for_no_newlines}
 use Rattle.tokens.specs.Posix.{Member, escaped, bracket, single, bracket_of, property_of, spelled_member, members, with_property, token_with_properties, with_properties}
 use Rattle.tokens.specs.Starts.{starts}
-use Rattle.tokens.specs.Tokens.{Token, escape, final, class, comment, plain, spelled, first, tokens, escaping, opens_comment, class_length, comment_length, has_newline}
+use Rattle.tokens.specs.Tokens.{Token, escape, final, class, comment, plain, spelled, tokens, class_length, has_newline}
 use Rattle.scanner.proofs.Edits.{Edit, ascii_append, utf8_edited, Edits, edits_same, edits_ascii, edits_append, edits_joined, edits_whole, edit_cut}
 use Rattle.tokens.proofs.Lists.{drop_least}
 use Rattle.newlines.proofs.Pieces.{honest_piece}
@@ -128,24 +129,19 @@ piece_edited (token (comment bs)) next rest ys f e = edits_same bs rest ys e
 piece_edited (token (plain b)) next rest ys f e = edits_same (b ∷ []) rest ys e
 
 piece_fits : (b : ℕ) (bs : List ℕ) → Fits (first_piece (b ∷ bs)) (past_front first_piece spelled_piece b bs)
-unfolding first_piece first
-piece_fits b bs = go (starts optional_newline (b ∷ bs)) (eqb b 92) bs (eqb b 91) refl (opens_comment (b ∷ bs)) where
-  shape : Bool → Bool → List ℕ → Bool → Bool → Piece
-  shape o s ys t u =
-      cond o optional (token (cond s (escaping ys) (cond t (class (b ∷ take (class_length opened bs) bs)) (cond u (comment (take (comment_length false (b ∷ bs)) (b ∷ bs))) (plain b)))))
+unfolding first_piece
+piece_fits b bs =
+    cond_both (starts optional_newline (b ∷ bs)) _ _ (λ p. Fits p (drop (pred (length (spelled_piece p))) bs)) (λ _. tt)
+    (λ _. token_cases (λ t. Fits (token t) (drop (pred (length (spelled t))) bs)) b bs (λ _ _ _ _. tt) tt opened_class (λ _. tt) tt) where
+      n : ℕ
+      n = class_length opened bs
 
-  go : (o s : Bool) (ys : List ℕ) (t : Bool) → eqb b 91 ≡ t → (u : Bool) → Fits (shape o s ys t u) (drop (pred (length (spelled_piece (shape o s ys t u)))) bs)
-  go true s ys t e u = tt
-  go false true [] t e u = tt
-  go false true (y ∷ ys) t e u = tt
-  go false false ys true e u =
-      let n = class_length opened bs in (
+      opened_class : b ≡ 91 → Fits (token (class (b ∷ take n bs))) (drop (length (take n bs)) bs)
+      opened_class e = (
         take n bs,
-        ap (λ (x : ℕ). x ∷ take n bs) (eqb-true b 91 e),
+        ap (λ (x : ℕ). x ∷ take n bs) e,
         subst (Ends (take n bs)) (sym (drop_least n (length (take n bs)) bs (length-take n bs))) (class_ends opened bs),
       )
-  go false false ys false e true = tt
-  go false false ys false e false = tt
 
 pub no_newlines_utf8 : NoNewlinesUtf8
 no_newlines_utf8 bs u =

@@ -21,7 +21,7 @@ pub struct Rewriter {
 
 impl Rewriter {
     pub fn new(heap: Global) -> Result<Self, AllocError>
-        ensures { IfOk result (λ w. w.replaced.items.items ≡ []) }
+        ensures { IfOk result (λ w. w.replaced ≡ []) }
     {
         let replaced = Buffer::new(heap)?;
         Ok(Rewriter { replaced })
@@ -34,12 +34,13 @@ impl Rewriter {
         lines_include_newline: bool,
         out: &mut Buffer<u8>,
     ) -> Result<(), TooLong>
-        ensures text { Rewritten lines_include_newline regex.now out.old.items.items result out.new.items.items }
+        ensures text { Rewritten lines_include_newline regex.now out.old result out.new }
         ensures laws { RewritingLaws }
     {
         laws_of_rewriting();
         self.replaced.clear();
         replace_posix_char_classes(regex, &mut self.replaced)?;
+        // A flag and no enum: callers pass the loader's setting as it is.
         if lines_include_newline {
             regex_for_newlines(self.replaced.as_slice(), out)
         } else {

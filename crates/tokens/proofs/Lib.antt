@@ -1,5 +1,4 @@
 pub mod Classes
-pub mod Comments
 pub mod Cut
 pub mod CutEach
 pub mod Lists

@@ -1,14 +1,7 @@
 -- Laws of lists that the shelf lacks.
 use Rattle.std.proofs.Common.{◌≡◌, ℕ, zero, suc, min, List, [], ◌∷◌, ◌++◌, length, take, drop, sym, refl, ap, ◌∙◌, ⊎_elim, arith}
-use Rattle.std.proofs.lemmas.List.{take_all, drop_all}
+use Rattle.std.proofs.lemmas.List.{drop_all}
 use Rattle.std.proofs.lemmas.Bool.{cases_lt}
-
--- a cut behind the end is one at the end
-pub take_least : {A : Type 0} (n m : ℕ) (xs : List A) → m ≡ min n (length xs) → take m xs ≡ take n xs
-take_least n m xs e = ⊎_elim
-    (λ h. ap (λ (k : ℕ). take k xs) (omega (arith, e)))
-    (λ h. take_all m xs (omega (arith, e)) ∙ sym (take_all n xs h))
-    (cases_lt n (length xs))
 
 pub drop_least : {A : Type 0} (n m : ℕ) (xs : List A) → m ≡ min n (length xs) → drop m xs ≡ drop n xs
 drop_least n m xs e = ⊎_elim

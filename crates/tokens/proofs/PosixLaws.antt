@@ -1,7 +1,7 @@
 -- Laws of POSIX brackets, and of the walk through a class that replaces them.
-use Rattle.std.proofs.Common.{◌≡◌, ℕ, suc, pred, ◌+◌, ◌-◌, ◌<◌, Bool, true, false, cond, not, ◌&&◌, eqb, ◌⊎◌, List, [], ◌∷◌, ◌++◌, length, take, drop, is_err, Some, None, Ok, Err, Option, Result, sym, refl, ap, ◌∙◌, subst, inl, inr, arith, length-append, length-drop, length-take}
+use Rattle.std.proofs.Common.{◌≡◌, ℕ, suc, pred, ◌+◌, ◌-◌, ◌<◌, Bool, true, false, cond, not, ◌&&◌, eqb, ◌⊎◌, List, [], ◌∷◌, ◌++◌, length, take, drop, Some, None, Option, sym, refl, ap, ◌∙◌, subst, inl, inr, arith, length-drop, length-take}
 use Rattle.std.specs.List.{flat_map}
-use Rattle.std.proofs.lemmas.List.{take-append-drop, append_assoc, append-nil, take-append-le, take_at, take_all}
+use Rattle.std.proofs.lemmas.List.{take-append-drop, append_assoc}
 use Rattle.std.proofs.lemmas.Bool.{cond-true, cond-false, cond_both, eqb-true, eq-eqb, ne_eqb, cases_eq, and_parts, and_from, not_from_false, not-true}
 use borrow.Author.Tests.{clash}
 use Rattle.tokens.specs.declared.class.ClassState.{ClassState}
@@ -13,15 +13,13 @@ use Rattle.tokens.specs.Classes.{opened, bare, from, stepped, closes, inside}
 use Rattle.tokens.specs.Cut.{past_front}
 use Rattle.tokens.specs.Starts.{starts}
 use Rattle.tokens.specs.declared.parser.Token.{Token as Read}
-use Rattle.buffer.specs.Appends.{Appended}
 use Rattle.tokens.specs.Reads.{meant, Taken}
 use Rattle.tokens.specs.Cursor.{front}
 use Rattle.tokens.specs.Tokens.{Token, class, comment, plain, spelled, first, tokens, escaping, opens_comment, class_length, comment_length}
-use Rattle.tokens.specs.Posix.{Member, single, bracket_of, property_of, first_of, posix_classes, bracket_at, bracket_or, escaped_or, first_member, spelled_member, members, with_property, replaced_from, rest_replaced, rest_behind, is_escaped, bracket_here, passed, class_text, class_with_properties, token_with_properties, Replaced, ReplacedToken}
+use Rattle.tokens.specs.Posix.{Member, single, bracket_of, property_of, first_of, posix_classes, bracket_at, bracket_or, escaped_or, first_member, spelled_member, members, with_property, replaced_from, rest_replaced, rest_behind, is_escaped, bracket_here, passed, class_text, class_with_properties, token_with_properties, with_properties, left_from}
 use Rattle.tokens.proofs.Cut.{cut_nil, cut_cons}
 use Rattle.tokens.proofs.Lists.{drop_least}
 use Rattle.tokens.proofs.Tokens.{taken_first}
-use Rattle.buffer.proofs.Writes.{Writing}
 use Rattle.tokens.proofs.Starts.{starts_split, starts_front}
 
 abbrev replaced : List ℕ → List ℕ
@@ -249,37 +247,6 @@ class_heads (x ∷ xs) ys zs p q r =
       omega (arith, simp length-drop at (ap length left)),
     )
 
--- the class is written
-pub class_written : (xs ys after items items₁ items₂ : List ℕ) → front xs ≡ Some 91 → ys ≡ drop 1 xs → items₁ ≡ items ++ 91 ∷ [] →
-    Writing items₁ (rest_replaced opened ys) items₂ [] → after ≡ rest_behind opened ys → Replaced {V = Unit {0}} {E = Unit {0}} (Ok tt) xs after items items₂
-class_written xs ys after items items₁ items₂ p q i w r =
-    let heads = class_heads xs ys after p q r in (
-      heads.0,
-      heads.1,
-      sym (append-nil items₂) ∙ w.same ∙ ap (λ (us : List ℕ). us ++ rest_replaced opened ys) i ∙ append_assoc items (91 ∷ []) (rest_replaced opened ys)
-          ∙ ap (λ (us : List ℕ). items ++ us) (sym (class_whole xs ys p q)),
-    )
-
--- there is no room for a piece of it
-pub class_refused : {V E : Type 0} (r : Result V E) (xs ys after items items₁ items₂ items₃ left left' piece : List ℕ) → is_err r ≡ true →
-    front xs ≡ Some 91 → ys ≡ drop 1 xs → items₁ ≡ items ++ 91 ∷ [] → Writing items₁ (rest_replaced opened ys) items₂ left →
-    left ≡ piece ++ left' → 65536 < length items₂ + length piece → items₃ ≡ items₂ → Replaced r xs after items items₃
-class_refused (Ok v) xs ys after items items₁ items₂ items₃ left left' piece e p q i w l over k = absurd (clash e)
-class_refused (Err x) xs ys after items items₁ items₂ items₃ left left' piece e p q i w l over k =
-    let long = simp length-append at (ap length i) in (
-      omega (arith, over, long, simp length-append at (ap length l), simp length-append at (ap length w.same), ap length (class_whole xs ys p q)),
-      ap (take (length items)) k ∙ sym (take-append-le (length items) items₂ left (omega (arith, long, w.kept))) ∙ ap (take (length items)) w.same
-          ∙ ap (λ (us : List ℕ). take (length items) (us ++ rest_replaced opened ys)) i
-          ∙ ap (take (length items)) (append_assoc items (91 ∷ []) (rest_replaced opened ys)) ∙ take_at items (91 ∷ rest_replaced opened ys) (length items) refl,
-    )
-
--- there is no room for its `[`
-pub opening_refused : {V E : Type 0} (r : Result V E) (xs ys after items items₁ : List ℕ) → is_err r ≡ true → front xs ≡ Some 91 → ys ≡ drop 1 xs →
-    65536 < length items + 1 → items₁ ≡ items → Replaced r xs after items items₁
-opening_refused (Ok v) xs ys after items items₁ e p q over k = absurd (clash e)
-opening_refused (Err x) xs ys after items items₁ e p q over k =
-    (omega (arith, over, ap length (class_whole xs ys p q)), ap (take (length items)) k ∙ take_all (length items) items (omega arith))
-
 -- The same steps, by what the cursor shows.
 pub here_bracket : (w : ClassWalker) (bs : List ℕ) (p : PosixClass) → bracket_here w bs ≡ Some p → (is_escaped w.state ≡ false) × (bracket_at bs ≡ Some p)
 here_bracket w [] p e = let z : ◌≡◌ {A = ℕ} 0 1 = cc in absurd (omega arith)
@@ -315,21 +282,57 @@ step_closing w (x ∷ xs) ys b p q shut =
     let over = over_closing w x xs (ap (closes w) is ∙ shut) in
     (over.0 ∙ ap (λ (c : ℕ). c ∷ []) is, over.1 ∙ sym q)
 
--- whatever the byte does, it is what is written of it
-pub byte_front : (w : ClassWalker) (xs : List ℕ) (b : ℕ) → front xs ≡ Some b → bracket_here w xs ≡ None → (left : List ℕ) × (rest_replaced w xs ≡ (b ∷ []) ++ left)
-byte_front w xs b p none = go (closes w b) refl where
-  go : (t : Bool) → closes w b ≡ t → (left : List ℕ) × (rest_replaced w xs ≡ (b ∷ []) ++ left)
-  go true shut = ([], (step_closing w xs (drop 1 xs) b p refl shut).0)
-  go false goes = (rest_replaced (stepped w b) (drop 1 xs), (step_byte w (stepped w b) xs (drop 1 xs) b p refl goes refl none).0)
+-- What is left behind a step of the walk, and behind the class.
+joined : (w : ClassWalker) (xs piece rest behind : List ℕ) → rest_replaced w xs ≡ piece ++ rest → rest_behind w xs ≡ behind →
+    left_from (Some w) xs ≡ piece ++ (rest ++ with_properties behind)
+joined w xs piece rest behind p q =
+    ap (λ (us : List ℕ). us ++ with_properties (rest_behind w xs)) p ∙ ap (λ (us : List ℕ). (piece ++ rest) ++ with_properties us) q ∙ append_assoc piece rest (with_properties behind)
 
--- The token at the front is a class,
-pub token_replaced : {V E : Type 0} (r : Result V E) (before after items items' : List ℕ) {b : ℕ} → front before ≡ Some b → b ≡ 91 → Replaced r before after items items' →
-    ReplacedToken r before after items items'
-token_replaced (Ok v) before after items items' p e w = (class (class_text before), w.0, w.1, w.2)
-token_replaced (Err x) before after items items' p e w =
-    (class (class_text before), tokens (rest_behind opened (drop 1 before)), (class_heads before (drop 1 before) (rest_behind opened (drop 1 before)) (p ∙ ap Some e) refl refl).0, w.0, w.1)
+pub past_a_bracket : (w v : ClassWalker) (xs ys : List ℕ) (p : PosixClass) → bracket_here w xs ≡ Some p → v ≡ passed w → ys ≡ drop 9 xs →
+    (length ys < length xs) × (left_from (Some w) xs ≡ property_of p ++ left_from (Some v) ys)
+past_a_bracket w v xs ys p here e q =
+    let step = step_bracket w v xs ys p here e q in
+    (shorter xs here q, joined w xs (property_of p) (rest_replaced v ys) (rest_behind v ys) step.0 step.1) where
+      shorter : (xs : List ℕ) → bracket_here w xs ≡ Some p → ys ≡ drop 9 xs → length ys < length xs
+      shorter [] here q = let z : ◌≡◌ {A = ℕ} 0 1 = cc in absurd (omega arith)
+      shorter (x ∷ xs) here q = omega (arith, simp length-drop at (ap length q))
 
--- or it is none, and stays as it is
+-- what the walk is behind a byte
+abbrev pub walk_behind : ClassWalker → ℕ → Option ClassWalker
+walk_behind w b = cond (closes w b) None (Some (stepped w b))
+
+pub past_a_byte : (w : ClassWalker) (xs ys : List ℕ) (b : ℕ) → front xs ≡ Some b → ys ≡ drop 1 xs → bracket_here w xs ≡ None →
+    (length ys < length xs) × (left_from (Some w) xs ≡ (b ∷ []) ++ left_from (walk_behind w b) ys)
+past_a_byte w xs ys b p q none = (shorter xs p q, go (closes w b) refl) where
+  shorter : (xs : List ℕ) → front xs ≡ Some b → ys ≡ drop 1 xs → length ys < length xs
+  shorter [] p q = let z : ◌≡◌ {A = ℕ} 0 1 = cc in absurd (omega arith)
+  shorter (x ∷ xs) p q = omega (arith, simp length-drop at (ap length q))
+
+  go : (t : Bool) → closes w b ≡ t → left_from (Some w) xs ≡ (b ∷ []) ++ left_from (cond t None (Some (stepped w b))) ys
+  go true shut =
+      let step = step_closing w xs ys b p q shut in
+      joined w xs (b ∷ []) [] ys step.0 step.1
+  go false goes =
+      let step = step_byte w (stepped w b) xs ys b p q goes refl none in
+      joined w xs (b ∷ []) (rest_replaced (stepped w b) ys) (rest_behind (stepped w b) ys) step.0 step.1
+
+-- nothing is left in a class where the text ends
+pub past_the_end : (w : ClassWalker) (xs : List ℕ) → xs ≡ [] → left_from (Some w) xs ≡ []
+past_the_end w xs e = let step = rest_nil w xs e in joined w xs [] [] [] step.0 step.1 ∙ ap (flat_map token_with_properties) (cut_nil first spelled)
+
+-- behind the `[` that opens a class
+pub past_an_opening : (xs ys : List ℕ) → front xs ≡ Some 91 → ys ≡ drop 1 xs → (length ys < length xs) × (with_properties xs ≡ (91 ∷ []) ++ left_from (Some opened) ys)
+past_an_opening xs ys p q =
+    let heads = class_heads xs ys (rest_behind opened ys) p q refl in (
+      shorter xs p q,
+      ap (flat_map token_with_properties) heads.0
+          ∙ ap (λ (us : List ℕ). us ++ with_properties (rest_behind opened ys)) (class_whole xs ys p q),
+    ) where
+      shorter : (xs : List ℕ) → front xs ≡ Some 91 → ys ≡ drop 1 xs → length ys < length xs
+      shorter [] p q = let z : ◌≡◌ {A = ℕ} 0 1 = cc in absurd (omega arith)
+      shorter (x ∷ xs) p q = omega (arith, simp length-drop at (ap length q))
+
+-- A token that is no class stays as it is.
 same_outside : (x : ℕ) (xs : List ℕ) → (x ≡ 91 → ⊥) → token_with_properties (first (x ∷ xs)) ≡ spelled (first (x ∷ xs))
 unfolding first
 same_outside x xs n = go (eqb x 92) (opens_comment (x ∷ xs)) (ne_eqb x 91 n) xs where
@@ -344,16 +347,9 @@ same_outside x xs n = go (eqb x 92) (opens_comment (x ∷ xs)) (ne_eqb x 91 n) x
     inner true = refl
     inner false = refl
 
-pub token_kept : {V E : Type 0} (r : Result V E) (t : Read) (before after items items' : List ℕ) (b : ℕ) → front before ≡ Some b → (b ≡ 91 → ⊥) →
-    Taken t before after → Appended items (spelled (meant t)) r items' → ReplacedToken r before after items items'
-token_kept r t [] after items items' b p n w a = let z : ◌≡◌ {A = ℕ} 0 1 = cc in absurd (omega arith)
-token_kept {V = V} {E = E} r t (x ∷ xs) after items items' b p n w a = go r a where
-  same : token_with_properties (meant t) ≡ spelled (meant t)
-  same =
-      let e : x ≡ b = cc in
-      let is = (taken_first t x xs after w).0 in
-      ap token_with_properties (sym is) ∙ same_outside x xs (λ h. n (sym e ∙ h)) ∙ ap spelled is
-
-  go : (r : Result V E) → Appended items (spelled (meant t)) r items' → ReplacedToken r (x ∷ xs) after items items'
-  go (Ok v) a = (meant t, w.heads, w.shorter, a.1 ∙ ap (λ (us : List ℕ). items ++ us) (sym same))
-  go (Err y) a = (meant t, tokens after, w.heads, omega (arith, a.0, ap length same), ap (take (length items)) a.1 ∙ take_all (length items) items (omega arith))
+pub past_a_token : (t : Read) (xs ys : List ℕ) → (front xs ≡ Some 91 → ⊥) → Taken t xs ys → with_properties xs ≡ spelled (meant t) ++ with_properties ys
+past_a_token t [] ys n w = absurd (omega (arith, w.shorter))
+past_a_token t (x ∷ xs) ys n w =
+    let is = (taken_first t x xs ys w).0 in
+    ap (flat_map token_with_properties) w.heads
+    ∙ ap (λ (us : List ℕ). us ++ with_properties ys) (ap token_with_properties (sym is) ∙ same_outside x xs (λ h. n (ap Some h)) ∙ ap spelled is)

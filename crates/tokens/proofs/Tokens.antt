@@ -143,13 +143,6 @@ taken_first t x xs ys w =
           (sym w.spells ∙ sym (honest_first x xs) ∙ ap (λ (u : Token). spelled u ++ past_front first spelled x xs) is),
     )
 
-pub front_length : (xs ys : List ℕ) (b : ℕ) → front xs ≡ Some b → ys ≡ drop 1 xs → length xs ≡ length ys + 1
-front_length [] ys b p q = none_some b p
-front_length (x ∷ xs) ys b p q = omega (arith, ap length q)
-
-pub no_front : (xs : List ℕ) (b : ℕ) → front xs ≡ Some b → xs ≡ [] → ⊥
-no_front xs b p e = none_some b (sym (ap front e) ∙ p)
-
 pub taken_plain : (xs ys : List ℕ) (b : ℕ) → front xs ≡ Some b → (b ≡ 92 → ⊥) → (b ≡ 91 → ⊥) → (b ≡ 40 → opens_comment xs ≡ false) → ys ≡ drop 1 xs → Taken (Plain b) xs ys
 taken_plain xs ys b p n m o q =
     taken_bare xs ys b p n m (⊎_elim o (not_comment xs b p) (cases_eq b 40)) q

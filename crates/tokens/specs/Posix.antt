@@ -1,6 +1,7 @@
 -- POSIX brackets inside a character class.
-use Rattle.std.specs.Prelude.{◌≡◌, ℕ, ◌+◌, ◌<◌, Bool, true, false, cond, not, ◌&&◌, List, [], ◌∷◌, ◌++◌, length, take, drop, Some, None, Ok, Err, codes, Option, Result, ◌==◌}
-use Rattle.std.specs.List.{flat_map}
+use Rattle.std.specs.Prelude.{ℕ, Bool, true, false, cond, not, ◌&&◌, List, [], ◌∷◌, ◌++◌, length, take, drop, Some, None, codes, Option, Result, ◌==◌}
+use Rattle.std.specs.List.{find, flat_map}
+use Rattle.buffer.specs.Appends.{WroteNext}
 use Rattle.tokens.specs.declared.class.ClassState.{ClassState}
 use Rattle.tokens.specs.declared.class.ClassState.TheVariants.{Start, Negated, Inside, Escaped}
 use Rattle.tokens.specs.declared.class.ClassWalker.{ClassWalker}
@@ -27,8 +28,7 @@ property_of Upper = 92 ∷ codes "p{Lu}"
 property_of Digit = 92 ∷ codes "p{Nd}"
 
 abbrev pub first_of : List PosixClass → List ℕ → Option PosixClass
-first_of [] bs = None
-first_of (p ∷ ps) bs = cond (starts (bracket_of p) bs) (Some p) (first_of ps bs)
+first_of ps bs = find (λ p. starts (bracket_of p) bs) ps
 
 abbrev pub posix_classes : List PosixClass
 posix_classes = Alpha ∷ Alnum ∷ Lower ∷ Upper ∷ Digit ∷ []
@@ -117,16 +117,15 @@ abbrev pub class_text : List ℕ → List ℕ
 class_text [] = []
 class_text (b ∷ bs) = b ∷ take (class_length opened bs) bs
 
--- The class at the front of `before` is written; or there is no room for it, and what was written of it can be taken away.
-abbrev pub Replaced : {V E : Type 0} → Result V E → (before after items items' : List ℕ) → Type 0
-Replaced (Ok v) before after items items' =
-    (tokens before ≡ class (class_text before) ∷ tokens after) × (length after < length before) × (items' ≡ items ++ class_with_properties (class_text before))
-Replaced (Err e) before after items items' =
-    (65536 < length items + length (class_with_properties (class_text before))) × (take (length items) items' ≡ items)
+-- What is still to be written where the walk stands in a class, or in none.
+abbrev pub left_from : Option ClassWalker → List ℕ → List ℕ
+left_from None bs = with_properties bs
+left_from (Some w) bs = rest_replaced w bs ++ with_properties (rest_behind w bs)
 
--- The token at the front of `before` is written; or there is no room for it, and what was written of it can be taken away.
-abbrev pub ReplacedToken : {V E : Type 0} → Result V E → (before after items items' : List ℕ) → Type 0
-ReplacedToken (Ok v) before after items items' =
-    (t : Token) × (tokens before ≡ t ∷ tokens after) × (length after < length before) × (items' ≡ items ++ token_with_properties t)
-ReplacedToken (Err e) before after items items' =
-    (t : Token) × (ts : List Token) × (tokens before ≡ t ∷ ts) × (65536 < length items + length (token_with_properties t)) × (take (length items) items' ≡ items)
+abbrev pub depth_in : Option ClassWalker → ℕ
+depth_in None = 0
+depth_in (Some w) = w.depth
+
+-- the next piece is written from one place of the walk to another
+abbrev pub WroteFrom : {V E : Type 0} → Option ClassWalker → List ℕ → Option ClassWalker → List ℕ → Option (Result V E) → List ℕ → List ℕ → Type 0
+WroteFrom w bs w' bs' result items items' = WroteNext (left_from w bs) (left_from w' bs') (length bs) (length bs') result items items'

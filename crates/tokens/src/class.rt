@@ -85,11 +85,13 @@ impl ClassWalker {
     }
 }
 
-/// Where a class ends, and whether it matches a newline.
+/// What a walk through a class tells.
 #[derive(Clone, Copy)]
 pub struct Extent {
     pub length: usize,
     pub matches_newline: bool,
+    /// a `]` closes the class; else the text ends in it
+    pub closed: bool,
 }
 
 /// The extent of the class whose `[` stands right before `behind`; that `[` is not counted.
@@ -97,41 +99,31 @@ pub(crate) fn class_extent(behind: &[u8]) -> Extent
     ensures length { result.length ≡ class_length opened behind.now }
     ensures within { result.length ≤ length behind.now }
     ensures newline { result.matches_newline ≡ newline_in opened behind.now }
+    ensures closed { result.closed ≡ closed_in opened behind.now }
 {
     let mut walker = ClassWalker::new();
-    let mut length = 0;
-    for byte in behind {
-        length += 1;
+    for (before, byte) in behind.iter().enumerate() {
         if walker.step(*byte) {
-            break;
+            return Extent {
+                length: before + 1,
+                matches_newline: walker.newline,
+                closed: true,
+            };
         }
     }
     Extent {
-        length,
+        length: behind.len(),
         matches_newline: walker.newline,
+        closed: false,
     }
-}
-
-/// Whether a `]` closes the class whose `[` stands right before `behind`.
-fn closes_behind(behind: &[u8]) -> bool
-    ensures { result ≡ closed_in opened behind.now }
-{
-    let mut walker = ClassWalker::new();
-    for byte in behind {
-        let closes = walker.step(*byte);
-        if closes {
-            return true;
-        }
-    }
-    false
 }
 
 /// Whether a `]` closes the class with this text, from its `[` on.
 pub fn class_is_closed(class: &[u8]) -> bool
     ensures { result ≡ is_closed class.now }
 {
-    let [_, behind @ ..] = class else {
-        return false;
-    };
-    closes_behind(behind)
+    match class {
+        [_, behind @ ..] => class_extent(behind).closed,
+        [] => false,
+    }
 }

@@ -51,10 +51,7 @@ impl<'a> Parser<'a> {
     pub fn peek(&self) -> Option<u8>
         ensures { result ≡ front self.now.rest.now }
     {
-        match self.rest {
-            [byte, ..] => Some(*byte),
-            [] => None,
-        }
+        self.rest.first().copied()
     }
 
     /// Goes on by one byte; at the end nothing happens.
@@ -80,7 +77,7 @@ impl<'a> Parser<'a> {
         ensures found { result ≡ starts prefix.now self.old.rest.now }
         ensures left { self.new.rest.now ≡ (if result then drop (length prefix.now) self.old.rest.now else self.old.rest.now) }
     {
-        let found = starts_with(self.rest, prefix);
+        let found = self.rest.starts_with(prefix);
         if found {
             self.advance(prefix.len());
         }
@@ -152,15 +149,12 @@ impl<'a> Parser<'a> {
     pub fn token(&mut self) -> Option<Token<'a>>
         ensures { Next result self.old.rest.now self.new.rest.now }
     {
-        let Some(byte) = self.peek() else {
-            return None;
-        };
-        match byte {
-            b'\\' => Some(self.escape()),
-            b'[' => Some(self.parse_character_class()),
-            b'(' if self.opens_comment() => Some(self.comment()),
-            _ => Some(self.plain(byte)),
-        }
+        Some(match self.peek()? {
+            b'\\' => self.escape(),
+            b'[' => self.parse_character_class(),
+            b'(' if self.opens_comment() => self.comment(),
+            byte => self.plain(byte),
+        })
     }
 }
 
@@ -168,28 +162,20 @@ impl<'a> Parser<'a> {
 fn comment_length(text: &[u8]) -> usize
     ensures { result ≡ comment_length false text.now }
 {
-    let mut length = 0;
     let mut escaped = false;
-    for byte in text {
-        length += 1;
+    for (before, byte) in text.iter().enumerate() {
         match (escaped, *byte) {
             (true, _) => escaped = false,
-            (false, b')') => break,
+            (false, b')') => return before + 1,
             (false, byte) => escaped = byte == b'\\',
         }
     }
-    length
-}
-
-pub(crate) fn starts_with(text: &[u8], prefix: &[u8]) -> bool
-    ensures { result ≡ starts prefix.now text.now }
-{
-    text.starts_with(prefix)
+    text.len()
 }
 
 /// Writes a token as it stands.
 pub fn write_token(token: Token, out: &mut Buffer<u8>) -> Result<(), TooLong>
-    ensures { Appended out.old.items.items (spelled (meant token.entry)) result out.new.items.items }
+    ensures { Appended out.old (spelled (meant token.entry)) result out.new }
 {
     match token {
         Token::Escape(byte) => out.extend(&[b'\\', byte]),

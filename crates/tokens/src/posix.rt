@@ -1,11 +1,11 @@
-ghost use Rattle.std.specs.Prelude.{◌≡◌, Some};
+ghost use Rattle.std.specs.Prelude.{◌≡◌, ◌+◌, ◌^◌, ◌<◌, length, Some, None};
 ghost use Rattle.buffer.specs.Appends.{Appended};
-ghost use Rattle.tokens.specs.Cursor.{front};
-ghost use Rattle.tokens.specs.Posix.{Replaced, ReplacedToken, bracket_at, bracket_here, property_of, with_properties};
+ghost use Rattle.tokens.specs.Starts.{starts};
+ghost use Rattle.tokens.specs.Posix.{WroteFrom, bracket_at, bracket_here, bracket_of, depth_in, first_of, left_from, property_of, with_properties};
 
 use crate::class::ClassWalker;
-use crate::parser::{Parser, starts_with, write_token};
-use buffer::{Buffer, TooLong};
+use crate::parser::{Parser, write_token};
+use buffer::{Buffer, Pieces, TooLong};
 
 /// The POSIX brackets that are rewritten.
 #[derive(Clone, Copy)]
@@ -21,23 +21,44 @@ pub enum PosixClass {
 const BRACKET_LENGTH: usize = 9;
 
 impl PosixClass {
+    const ALL: [PosixClass; 5] = [
+        PosixClass::Alpha,
+        PosixClass::Alnum,
+        PosixClass::Lower,
+        PosixClass::Upper,
+        PosixClass::Digit,
+    ];
+
+    fn bracket(self) -> &'static [u8]
+        ensures { result.now ≡ bracket_of self }
+    {
+        match self {
+            PosixClass::Alpha => b"[:alpha:]",
+            PosixClass::Alnum => b"[:alnum:]",
+            PosixClass::Lower => b"[:lower:]",
+            PosixClass::Upper => b"[:upper:]",
+            PosixClass::Digit => b"[:digit:]",
+        }
+    }
+
+    fn stands_at(self, text: &[u8]) -> bool
+        ensures { result ≡ starts (bracket_of self) text.now }
+    {
+        text.starts_with(self.bracket())
+    }
+
+    /// The first of the brackets that stands at the front of `text`.
+    fn first_of(classes: &[PosixClass], text: &[u8]) -> Option<PosixClass>
+        ensures { result ≡ first_of classes.now text.now }
+    {
+        classes.iter().copied().find(|class| class.stands_at(text))
+    }
+
     /// The bracket that stands at the front of `text`.
     fn at_front(text: &[u8]) -> Option<PosixClass>
         ensures { result ≡ bracket_at text.now }
     {
-        if starts_with(text, b"[:alpha:]") {
-            Some(PosixClass::Alpha)
-        } else if starts_with(text, b"[:alnum:]") {
-            Some(PosixClass::Alnum)
-        } else if starts_with(text, b"[:lower:]") {
-            Some(PosixClass::Lower)
-        } else if starts_with(text, b"[:upper:]") {
-            Some(PosixClass::Upper)
-        } else if starts_with(text, b"[:digit:]") {
-            Some(PosixClass::Digit)
-        } else {
-            None
-        }
+        PosixClass::first_of(&PosixClass::ALL, text)
     }
 
     /// The Unicode properties that match what the bracket is to match.
@@ -65,57 +86,72 @@ fn bracket_here(walker: &ClassWalker, parser: &Parser) -> Option<PosixClass>
     }
 }
 
-/// Writes the class whose `[` stands here, with properties in the place of brackets, and goes on behind it.
-/// Where there is no room, what is written of it stays for the caller to take away.
-fn replace_in_class(parser: &mut Parser, out: &mut Buffer<u8>) -> Result<(), TooLong>
-    requires { front parser.old.rest.now ≡ Some 91 }
-    ensures { Replaced result parser.old.rest.now parser.new.rest.now out.old.items.items out.new.items.items }
-{
-    out.push(b'[')?;
-    parser.next();
-    let mut walker = ClassWalker::new();
-    while let Some(byte) = parser.peek() {
-        if let Some(bracket) = bracket_here(&walker, parser) {
-            out.extend(bracket.properties())?;
-            parser.advance(BRACKET_LENGTH);
-            walker.pass_bracket();
-        } else {
-            out.push(byte)?;
-            parser.next();
-            if walker.step(byte) {
-                break;
-            }
-        }
-    }
-    Ok(())
+/// A pattern with properties in the place of its brackets, written piece by piece.
+#[derive(Clone, Copy)]
+struct WithProperties<'a> {
+    parser: Parser<'a>,
+    /// the walk through the class that the parser stands in
+    class: Option<ClassWalker>,
+    ghost shallow: { depth_in class + length parser.rest.now < 2 ^ 64 },
 }
 
-/// Writes the token that stands here, which begins with `byte`, and goes on behind it.
-/// Where there is no room, what is written of it stays for the caller to take away.
-fn replace_token(byte: u8, parser: &mut Parser, out: &mut Buffer<u8>) -> Result<(), TooLong>
-    requires { front parser.old.rest.now ≡ Some byte }
-    ensures { ReplacedToken result parser.old.rest.now parser.new.rest.now out.old.items.items out.new.items.items }
-{
-    if byte == b'[' {
-        return replace_in_class(parser, out);
+impl WithProperties<'_> {
+    /// Writes what stands here outside of a class.
+    fn write_outside(&mut self, out: &mut Buffer<u8>) -> Option<Result<(), TooLong>>
+        requires { self.old.class ≡ None }
+        ensures { WroteFrom self.old.class self.old.parser.rest.now self.new.class self.new.parser.rest.now result out.old out.new }
+    {
+        if self.parser.peek()? == b'[' {
+            self.parser.next();
+            self.class = Some(ClassWalker::new());
+            return Some(out.push(b'['));
+        }
+        let token = self.parser.token()?;
+        Some(write_token(token, out))
     }
-    match parser.token() {
-        Some(token) => write_token(token, out),
-        None => Ok(()),
+
+    /// Writes what stands here in a class.
+    fn write_inside(
+        &mut self,
+        mut walker: ClassWalker,
+        out: &mut Buffer<u8>,
+    ) -> Option<Result<(), TooLong>>
+        requires { self.old.class ≡ Some walker }
+        ensures { WroteFrom self.old.class self.old.parser.rest.now self.new.class self.new.parser.rest.now result out.old out.new }
+    {
+        let byte = self.parser.peek()?;
+        if let Some(bracket) = bracket_here(&walker, &self.parser) {
+            self.parser.advance(BRACKET_LENGTH);
+            walker.pass_bracket();
+            self.class = Some(walker);
+            return Some(out.extend(bracket.properties()));
+        }
+        self.parser.next();
+        let closed = walker.step(byte);
+        self.class = if closed { None } else { Some(walker) };
+        Some(out.push(byte))
+    }
+}
+
+impl Pieces<u8> for WithProperties<'_> {
+    ghost left = { λ s. left_from s.class s.parser.rest.now };
+
+    ghost size = { λ s. length s.parser.rest.now };
+
+    fn write_next(&mut self, out: &mut Buffer<u8>) -> Option<Result<(), TooLong>> {
+        match self.class {
+            Some(walker) => self.write_inside(walker, out),
+            None => self.write_outside(out),
+        }
     }
 }
 
 /// Puts Unicode properties in the place of the POSIX brackets of the pattern's classes, which match ASCII only.
 pub fn replace_posix_char_classes(regex: &[u8], out: &mut Buffer<u8>) -> Result<(), TooLong>
-    ensures { Appended out.old.items.items (with_properties regex.now) result out.new.items.items }
+    ensures { Appended out.old (with_properties regex.now) result out.new }
 {
-    let before = out.len();
-    let mut parser = Parser::new(regex);
-    while let Some(byte) = parser.peek() {
-        if let Err(refusal) = replace_token(byte, &mut parser, out) {
-            out.truncate(before);
-            return Err(refusal);
-        }
-    }
-    Ok(())
+    out.write_pieces(WithProperties {
+        parser: Parser::new(regex),
+        class: None,
+    })
 }

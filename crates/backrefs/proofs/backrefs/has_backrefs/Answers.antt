@@ -1,7 +1,11 @@
-use Rattle.std.proofs.Common.{sym, ap, ◌∙◌}
-use Rattle.backrefs.specs.Backrefs.{any_backref}
-use Rattle.backrefs.proofs.Pairs.{no_pairs}
+use Rattle.std.proofs.Common.{rules, tests, refl}
+use Rattle.std.proofs.lemmas.Iterator.Consumers.{YieldsList-from_first}
+use Rattle.std.proofs.lemmas.Iterator.Search.{any_from_yields_List}
+use Rattle.backrefs.specs.Backrefs.{is_backref, pairs}
+use Rattle.backrefs.specs.Pairs.{meant_pair}
 use Rattle.backrefs.proofs.backrefs.has_backrefs.Goals as goal
 
 pub returns : goal.returns
-returns c = sym (c.loop-pair.invariant ∙ ap any_backref (no_pairs _ c.in_default.ensures.0))
+returns c =
+    any_from_yields_List is_backref c.any.new.self _ _ c.any.ensures.ran
+    (YieldsList-from_first meant_pair (λ s. pairs s.0.now) _ refl) (λ x b q k. search (rules, tests))

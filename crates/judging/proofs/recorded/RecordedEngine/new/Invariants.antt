@@ -1,4 +1,4 @@
-use Rattle.judging.specs.Records.{SoundBelow}
+use Rattle.judging.specs.Entries.{SoundBelow}
 use Rattle.judging.proofs.recorded.RecordedEngine.new.Given as goal
 
 -- the entries before this one are sound

@@ -1,0 +1,14 @@
+use Rattle.std.proofs.Common.{◌≤◌, length}
+use Rattle.buffer.proofs.Writes.{Writing}
+use Rattle.buffer.proofs.Buffer.write_pieces.Given as goal
+
+abbrev pub invariant-loop-written : goal.invariant-loop-written
+invariant-loop-written g l =
+    record {
+      -- what is written, and then what is left, is what there was to write
+      writing : Writing l.initial.self (g.P.Pieces.left l.initial.pieces) l.self (g.P.Pieces.left l.pieces);
+      within : length l.self ≤ 65536;
+    }
+
+abbrev pub decreases-loop-written : goal.decreases-loop-written
+decreases-loop-written g l = g.P.Pieces.size l.pieces
