@@ -1,4 +1,6 @@
 pub mod Places
 pub mod Scalars
 pub mod Flow
+pub mod Content
 pub mod Sofar
+pub mod Reads

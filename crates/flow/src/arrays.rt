@@ -1,10 +1,11 @@
-ghost use Rattle.std.specs.Prelude.{◌≡◌, ◌+◌, ◌≤◌, [], ◌∷◌, ◌++◌, vec_len, MatchResult};
+ghost use Rattle.std.specs.Prelude.{◌≡◌, ◌+◌, ◌≤◌, [], ◌∷◌, ◌++◌, length, vec_len, MatchResult};
 ghost use Rattle.tree.specs.Checked.{Checked};
 ghost use Rattle.tree.specs.Meaning.{Means};
-ghost use Rattle.tree_rule.specs.Nodes.{raw};
+ghost use Rattle.flow.specs.Content.{node_of};
 ghost use Rattle.flow.specs.Places.{NoRoom};
 ghost use Rattle.flow.specs.Sofar.{ending_here};
 
+use crate::content::Content;
 use crate::misread::Reason;
 use std::alloc::Global;
 use tree::{MAX_NODES, MAX_TEXT, RawNode, Refusal, Tree, Workspace};
@@ -36,31 +37,18 @@ impl Arrays {
         tree::check(self.nodes.as_slice(), self.text.as_slice(), work)
     }
 
-    /// Writes a node that holds nothing yet.
-    pub(crate) fn push_node(
-        &mut self,
-        kind: u32,
-        place: u32,
-        length: u32,
-        number: i64,
-    ) -> Result<(), Reason>
+    /// Writes a node that ends behind itself.
+    pub(crate) fn push(&mut self, content: Content) -> Result<(), Reason>
         ensures text { self.new.text ≡ self.old.text }
-        ensures nodes { MatchResult result (λ _. self.new.nodes.items ≡ self.old.nodes.items ++ raw kind (vec_len self.old.nodes + 1) place length number ∷ []) (λ e. NoRoom e) }
+        ensures nodes { MatchResult result (λ _. self.new.nodes.items ≡ self.old.nodes.items ++ node_of content (length self.old.nodes.items + 1) ∷ []) (λ e. NoRoom e) }
     {
         let end = self.nodes.len() + 1;
         if end > MAX_NODES {
             return Err(Reason::TooManyNodes);
         }
-        match self.nodes.push(RawNode {
-            kind,
-            end: end as u32,
-            place,
-            length,
-            number,
-        }) {
-            Ok(()) => Ok(()),
-            Err(_) => Err(Reason::NoMemory),
-        }
+        self.nodes
+            .push(content.node(end as u32))
+            .map_err(|_| Reason::NoMemory)
     }
 
     /// All nodes behind this one are what it holds.
@@ -82,9 +70,8 @@ impl Arrays {
         if bytes.len() > MAX_TEXT - self.text.len() {
             return Err(Reason::TooMuchText);
         }
-        match self.text.extend_from_slice(bytes) {
-            Ok(()) => Ok(()),
-            Err(_) => Err(Reason::NoMemory),
-        }
+        self.text
+            .extend_from_slice(bytes)
+            .map_err(|_| Reason::NoMemory)
     }
 }

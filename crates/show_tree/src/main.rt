@@ -83,7 +83,7 @@ fn show_document(
     requires end_in_bounds { end ≤ length input.now }
 {
     let document = &input[from..end];
-    if let Err(misread) = arrays.read(rt.alloc(), document) {
+    if let Err(misread) = arrays.read(document) {
         let line = line_of(input, from + misread.place);
         let words = misread_words(misread.reason);
         println!(rt; "line {line}, byte {}: {words}", from + misread.place)?;

@@ -1,0 +1,70 @@
+ghost use Rattle.std.specs.Prelude.{◌≡◌};
+ghost use Rattle.flow.specs.Content.{closing_of, node_of};
+
+use tree::RawNode;
+
+/// What holds other nodes.
+#[derive(Clone, Copy)]
+pub(crate) enum Group {
+    List,
+    Map,
+}
+
+impl Group {
+    /// The byte behind all that a list or a map holds.
+    pub(crate) fn closing(self) -> u8
+        ensures { result ≡ closing_of self }
+    {
+        match self {
+            Group::List => b']',
+            Group::Map => b'}',
+        }
+    }
+}
+
+/// What a node is and holds itself.
+#[derive(Clone, Copy)]
+pub(crate) enum Content {
+    Null,
+    Boolean(bool),
+    Integer(i64),
+    /// the bytes of the text from a place on
+    Text { place: u32, length: u32 },
+    Group(Group),
+}
+
+impl Content {
+    /// The node that ends there.
+    pub(crate) fn node(self, end: u32) -> RawNode
+        ensures { result ≡ node_of self end }
+    {
+        let empty = RawNode {
+            kind: 0,
+            end,
+            place: 0,
+            length: 0,
+            number: 0,
+        };
+        match self {
+            Content::Null => empty,
+            Content::Boolean(value) => RawNode {
+                kind: 1,
+                number: i64::from(value),
+                ..empty
+            },
+            Content::Integer(number) => RawNode {
+                kind: 2,
+                number,
+                ..empty
+            },
+            Content::Text { place, length } => RawNode {
+                kind: 3,
+                place,
+                length,
+                ..empty
+            },
+            Content::Group(Group::List) => RawNode { kind: 4, ..empty },
+            Content::Group(Group::Map) => RawNode { kind: 5, ..empty },
+        }
+    }
+}
