@@ -1,4 +1,5 @@
 pub mod Places
+pub mod Reasons
 pub mod Scalars
 pub mod Flow
 pub mod Content

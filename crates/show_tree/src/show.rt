@@ -1,16 +1,25 @@
-ghost use Rattle.std.specs.Prelude.{◌≡◌, ◌≤◌, IfOk, vec_len};
+ghost use Rattle.std.specs.Prelude.{◌≡◌, ◌<◌, ◌≤◌, ◌-◌, ℕ, IfOk, length, slice_index, vec_len};
 ghost use Rattle.show_tree.specs.Lines.{Deepened, Forgot, kind_word};
 
 use tree::{Kind, Tree};
+
+/// How many of the first ends lie behind this node.
+fn around(ends: &[usize], node: usize) -> usize
+    ensures range { result ≤ length ends.now }
+    ensures ended { (k : ℕ) → result ≤ k → k < length ends.now → slice_index ends.now k ≤ node }
+    ensures last { 0 < result → node < slice_index ends.now (result - 1) }
+{
+    ends.iter()
+        .rposition(|end| *end > node)
+        .map_or(0, |last| last + 1)
+}
 
 /// Forgets the nodes that have ended before this one.
 fn forget_ended(ends: &mut Vec<usize>, node: usize)
     ensures shorter { vec_len ends.new ≤ vec_len ends.old }
     ensures forgot { Forgot node ends.old.items ends.new.items }
 {
-    while !ends.is_empty() && ends[ends.len() - 1] <= node {
-        let _ = ends.pop();
-    }
+    ends.truncate(around(ends, node));
 }
 
 /// How many nodes lie around this one, which joins them for the nodes that follow.
