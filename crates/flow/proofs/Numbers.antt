@@ -1,9 +1,9 @@
 -- What an integer's bytes parse to is what the flow form says.
-use Rattle.std.proofs.Common.{◌≡◌, ℕ, ◌+◌, ◌≤◌, true, List, ◌∷◌, ◌++◌, get_or, take, drop, [], ℤ, pos, neg_ℤ, IfSome, Some, Option, Ok, Err, Result, sym, refl, ap, ◌∙◌, subst, ⊎_elim, arith, to_z-of_z, w64, SFits, to_z, of_z, zero, suc, ◌^◌, lit<, rules}
+use Rattle.std.proofs.Common.{◌≡◌, ℕ, ◌+◌, ◌<◌, ◌≤◌, true, List, ◌∷◌, ◌++◌, length, get_or, take, drop, [], ℤ, pos, neg_ℤ, IfSome, Ok, Err, Result, sym, refl, ap, ◌∙◌, subst, ⊎_elim, arith, to_z-of_z, w64, SFits, to_z, of_z, zero, suc, ◌^◌, lit<, rules}
 use Rattle.std.specs.Result.{result_ok}
 use Rattle.std.specs.Str.Parse.{ParsesSigned}
 use Rattle.std.specs.Str.{all_ascii_digits}
-use Rattle.std.proofs.lemmas.List.{drop-drop, take-append-drop, get_or-drop, get_or-take}
+use Rattle.std.proofs.lemmas.List.{drop-drop, take-append-drop}
 use Rattle.std.proofs.lemmas.Str.Parse.{IsNumeralModel, numerals_by_fold, parse_signed_minus, parse_signed_plain}
 use Rattle.std.proofs.lemmas.Result.{OkIff-at_ok}
 use Rattle.std.proofs.lemmas.Bool.{cases_eq}
@@ -42,26 +42,23 @@ pub integer_read : {E : Type 0} (bs rest : List ℕ) (r : Result ℤ E) (z : ℤ
 integer_read bs rest r z p e n =
     ⊎_elim (λ m. as_minus bs rest r z p e m) (λ m. as_plain bs rest r z p e n m) (cases_eq (get_or bs 0 0) 45)
 
+long : {E : Type 0} (bs : List ℕ) (r : Result ℤ E) (z : ℤ) → ParsesSigned w64 10 bs r → r ≡ Ok z → (get_or bs 0 0 ≡ 43 → ⊥) → 0 < length bs
+long [] r z p e n = absurd (omega (arith, (OkIff-at_ok r _ _ z (parse_signed_plain own w64 [] r p n (λ m. omega (arith, m))) e).0.1))
+long (b ∷ bs) r z p e n = omega arith
+
 pub parsed : {E : Type 0} (bs : List ℕ) (r : Result ℤ E) → ParsesSigned w64 10 bs r → (get_or bs 0 0 ≡ 43 → ⊥) →
-    IfSome (result_ok r) (λ z. (rest : List ℕ) → Integer (bs ++ rest) rest z)
-parsed {E = E} bs (Ok z) p n = λ rest. integer_read {E = E} bs rest (Ok z) z p refl n
+    IfSome (result_ok r) (λ z. (0 < length bs) × ((rest : List ℕ) → Integer (bs ++ rest) rest z))
+parsed {E = E} bs (Ok z) p n = (long {E = E} bs (Ok z) z p refl n, λ rest. integer_read {E = E} bs rest (Ok z) z p refl n)
 parsed bs (Err e) p n = tt
 
-as_here : (input bs : List ℕ) (place end w : ℕ) (z : ℤ) → bs ≡ drop place input → end ≡ place + w → Integer (take w bs ++ drop w bs) (drop w bs) z →
+-- the integer that stands at a place
+pub integer_here : (input bs : List ℕ) (place end w : ℕ) (z : ℤ) → bs ≡ drop place input → end ≡ place + w → Integer (take w bs ++ drop w bs) (drop w bs) z →
     Integer (drop place input) (drop end input) (to_z w64 (of_z w64 z))
-as_here input bs place end w z same there i =
+integer_here input bs place end w z same there i =
     subst (λ (y : ℤ). Integer (drop place input) (drop end input) y) (sym (number_kept i))
     (subst (λ (xs : List ℕ). Integer (drop place input) xs z) (ap (drop w) same ∙ drop-drop w place input ∙ ap (λ n. drop n input) (sym there))
     (subst (λ (xs : List ℕ). Integer xs (drop w bs) z) (take-append-drop w bs ∙ same) i))
 
--- the integer that stands at a place
-pub integer_here : (input bs : List ℕ) (place end w : ℕ) (r : Option ℤ) (z : ℤ) → bs ≡ drop place input → end ≡ place + (1 + w) → r ≡ Some z →
-    (get_or input place 0 ≡ 43 → ⊥) →
-    ((get_or (take (1 + w) bs) 0 0 ≡ 43 → ⊥) → IfSome r (λ y. (rest : List ℕ) → Integer (take (1 + w) bs ++ rest) rest y)) →
-    Integer (drop place input) (drop end input) (to_z w64 (of_z w64 z))
-integer_here input bs place end w r z same there is no_plus i =
-    let first : get_or (take (1 + w) bs) 0 0 ≡ get_or input place 0 =
-    get_or-take (1 + w) bs 0 0 (omega arith) ∙ ap (λ xs. get_or xs 0 0) same ∙ get_or-drop place input 0 0 ∙ ap (λ n. get_or input n 0) (omega arith) in
-    let j = i (λ e. no_plus (sym first ∙ e)) in
-    as_here input bs place end (1 + w) z same there
-    ((subst (λ (q : Option ℤ). IfSome q (λ y. (rest : List ℕ) → Integer (take (1 + w) bs ++ rest) rest y)) is j) (drop (1 + w) bs))
+pub wide : (w : ℕ) (bs : List ℕ) → 0 < length (take w bs) → 0 < w
+wide zero bs h = h
+wide (suc w) bs h = omega arith

@@ -1,5 +1,5 @@
 -- What stands at the front of a string.
-use Rattle.std.proofs.Common.{◌≡◌, ℕ, ◌+◌, ◌<◌, ◌≤◌, Bool, true, false, List, [], ◌∷◌, ◌++◌, length, get_or, drop, pos, Some, None, Ok, Option, Result, sym, refl, ap, ◌∙◌, subst, append_assoc, arith}
+use Rattle.std.proofs.Common.{◌≡◌, ℕ, ◌+◌, ◌<◌, Bool, true, false, List, [], ◌∷◌, ◌++◌, length, get_or, drop, pos, Some, Ok, Option, Result, sym, refl, ap, ◌∙◌, subst, append_assoc}
 use lib.Utf8.{scalar}
 use Rattle.tree_rule.specs.Nodes.{raw}
 use Rattle.flow.specs.Flow.{Key, string}
@@ -7,14 +7,8 @@ use Rattle.std.proofs.lemmas.List.{append-nil, drop_more, drop-drop}
 use Rattle.flow.specs.declared.misread.Reason.{Reason}
 use Rattle.tree_rule.specs.declared.node.RawNode.{RawNode}
 use Rattle.flow.specs.Places.{Read, ReadPiece, Wrote}
-use Rattle.std.proofs.lemmas.Bool.{cond-false, ne_eqb, lt-ltb, le-ltb}
+use Rattle.std.proofs.lemmas.Bool.{cond-false}
 use Rattle.flow.specs.Scalars.{character, character_from, code_unit, paired_with, piece, Inside, closed, more}
-
-pub piece_control : (bs : List ℕ) → get_or bs 0 0 < 32 → piece bs ≡ None
-piece_control bs h = rw (ne_eqb (get_or bs 0 0) 92 (λ e. omega (arith, e, h)), lt-ltb _ _ h) refl
-
-pub piece_plain : (bs : List ℕ) → (get_or bs 0 0 ≡ 92 → ⊥) → 32 ≤ get_or bs 0 0 → piece bs ≡ Some (get_or bs 0 0 ∷ [], 1)
-piece_plain bs n h = rw (ne_eqb (get_or bs 0 0) 92 n, le-ltb _ _ h) refl
 
 off : (b : Bool) → (b ≡ true → ⊥) → b ≡ false
 off true n = absurd (n refl)

@@ -57,8 +57,8 @@ impl Arrays {
         ensures nodes { self.new.nodes.items ≡ ending_here node self.old.nodes.items }
     {
         let end = self.nodes.len() as u32;
-        if node < self.nodes.len() {
-            self.nodes[node].end = end;
+        if let Some(node) = self.nodes.get_mut(node) {
+            node.end = end;
         }
     }
 

@@ -1,5 +1,5 @@
-ghost use Rattle.std.specs.Prelude.{◌≡◌};
-ghost use Rattle.flow.specs.Content.{closing_of, node_of};
+ghost use Rattle.std.specs.Prelude.{◌≡◌, ◌≢◌, MatchOption};
+ghost use Rattle.flow.specs.Content.{closing_of, node_of, opening_of};
 
 use tree::RawNode;
 
@@ -11,6 +11,17 @@ pub(crate) enum Group {
 }
 
 impl Group {
+    /// What opens with this byte.
+    pub(crate) fn opened_by(byte: u8) -> Option<Group>
+        ensures { MatchOption result ((byte ≢ 91) × (byte ≢ 123)) (λ group. byte ≡ opening_of group) }
+    {
+        match byte {
+            b'[' => Some(Group::List),
+            b'{' => Some(Group::Map),
+            _ => None,
+        }
+    }
+
     /// The byte behind all that a list or a map holds.
     pub(crate) fn closing(self) -> u8
         ensures { result ≡ closing_of self }

@@ -33,7 +33,6 @@ fn word(bytes: &[u8]) -> Option<(Content, usize)>
 impl Cursor<'_> {
     /// Reads `true`, `false` or `null`.
     fn read_word(&mut self, arrays: &mut Arrays) -> Result<(), Misread>
-        requires { self.old.place < length self.old.input.now }
         ensures input { self.new.input ≡ self.old.input }
         ensures place { IfErr result (λ m. m.place ≡ self.old.place) }
         ensures told { Startless (slice_index self.old.input.now self.old.place) → IfErr result (λ m. Told self.old.input.now m) }
@@ -112,6 +111,18 @@ impl Cursor<'_> {
         Ok(left)
     }
 
+    /// Reads a value that holds no other.
+    fn read_leaf(&mut self, arrays: &mut Arrays) -> Result<(), Misread>
+        ensures input { self.new.input ≡ self.old.input }
+        ensures told { (slice_index self.old.input.now self.old.place ≢ 91) × (slice_index self.old.input.now self.old.place ≢ 123) → IfErr result (λ m. Told self.old.input.now m) }
+        ensures reads { OnOk result (Reads Value self.old self.new arrays.old arrays.new) }
+    {
+        match self.rest() {
+            [b'"' | b'-' | b'0'..=b'9', ..] => self.read_scalar(arrays),
+            _ => self.read_word(arrays),
+        }
+    }
+
     /// Reads a value, in which so many lists and maps may nest.
     #[cycle(value)]
     fn read_value(&mut self, depth: usize, arrays: &mut Arrays) -> Result<(), Misread>
@@ -120,23 +131,9 @@ impl Cursor<'_> {
         ensures reads { OnOk result (Reads Value self.old self.new arrays.old arrays.new) }
     {
         let byte = self.next_token()?;
-        match byte {
-            b'[' => self.read_group(Group::List, depth, arrays),
-            b'{' => self.read_group(Group::Map, depth, arrays),
-            b'"' | b'-' | b'0'..=b'9' => self.read_scalar(arrays),
-            _ => self.read_word(arrays),
-        }
-    }
-
-    /// Reads the list or map that opens here.
-    #[cycle(value)]
-    fn read_group(&mut self, group: Group, depth: usize, arrays: &mut Arrays) -> Result<(), Misread>
-        requires in_bounds { self.old.place < length self.old.input.now }
-        requires at_opening { slice_index self.old.input.now self.old.place ≡ opening_of group }
-        ensures input { self.new.input ≡ self.old.input }
-        ensures told { IfErr result (λ m. Told self.old.input.now m) }
-        ensures reads { OnOk result (Reads Value self.old self.new arrays.old arrays.new) }
-    {
+        let Some(group) = Group::opened_by(byte) else {
+            return self.read_leaf(arrays);
+        };
         let node = arrays.nodes.len();
         let left = self.open_group(group, depth, arrays)?;
         self.skip(1);

@@ -1,4 +1,4 @@
-ghost use Rattle.std.specs.Prelude.{◌≡◌, ℕ, ◌+◌, ◌-◌, ◌*◌, ◌^◌, ◌<◌, ◌≤◌, ◌⊎◌, ◌≢◌, List, ◌∷◌, [], ◌++◌, length, drop, vec_len, IfSome, IfOk, IfErr, OnOk, Ok, Err, MatchResult, slice_index};
+ghost use Rattle.std.specs.Prelude.{◌≡◌, ◌==◌, cond, take, ℕ, ◌+◌, ◌-◌, ◌*◌, ◌^◌, ◌<◌, ◌≤◌, ◌⊎◌, ◌≢◌, List, ◌∷◌, [], ◌++◌, length, drop, vec_len, IfSome, IfOk, IfErr, OnOk, Ok, Err, MatchResult, slice_index};
 ghost use Rattle.std.proofs.Math.Utf8.{encode};
 ghost use Rattle.flow.specs.Content.{node_of};
 ghost use Rattle.flow.specs.Places.{NoRoom, ReadPiece, Told, Wrote};
@@ -25,10 +25,22 @@ fn digits(bytes: &[u8]) -> usize
         .count()
 }
 
+/// How many bytes at the front are a minus sign and digits.
+fn integer_width(bytes: &[u8]) -> usize
+    ensures range { result ≤ length bytes.now }
+    ensures is { result ≡ cond (slice_index bytes.now 0 == 45) (1 + prefix_len is_ascii_digit (drop 1 bytes.now)) (prefix_len is_ascii_digit bytes.now) }
+    ensures no_plus { slice_index (take result bytes.now) 0 ≢ 43 }
+{
+    match bytes {
+        [b'-', rest @ ..] => 1 + digits(rest),
+        _ => digits(bytes),
+    }
+}
+
 /// The integer of 64 bits that these bytes are.
 fn integer(bytes: &[u8]) -> Option<i64>
     // `parse` takes a plus sign too, which the flow form does not know
-    ensures { slice_index bytes.now 0 ≢ 43 → IfSome result (λ z. (rest : List ℕ) → Integer (bytes.now ++ rest) rest z) }
+    ensures { slice_index bytes.now 0 ≢ 43 → IfSome result (λ z. (0 < length bytes.now) × ((rest : List ℕ) → Integer (bytes.now ++ rest) rest z)) }
 {
     std::str::from_utf8(bytes).ok()?.parse().ok()
 }
@@ -154,14 +166,13 @@ impl Cursor<'_> {
 
     /// Reads an integer.
     pub(crate) fn read_integer(&mut self, arrays: &mut Arrays) -> Result<(), Misread>
-        requires { self.old.place < length self.old.input.now }
         ensures input { self.new.input ≡ self.old.input }
         ensures place { IfErr result (λ m. m.place ≡ self.old.place) }
         ensures told { (slice_index self.old.input.now self.old.place ≡ 45) ⊎ IsInRange 48 57 (slice_index self.old.input.now self.old.place) → IfErr result (λ m. Told self.old.input.now m) }
-        ensures reads { slice_index self.old.input.now self.old.place ≢ 43 → OnOk result (Reads Key self.old self.new arrays.old arrays.new) }
+        ensures reads { OnOk result (Reads Key self.old self.new arrays.old arrays.new) }
     {
         let rest = self.rest();
-        let width = 1 + digits(&rest[1..]);
+        let width = integer_width(rest);
         let number = integer(&rest[..width]).ok_or(self.misread(Reason::BadNumber))?;
         self.push(Content::Integer(number), arrays)?;
         self.skip(width);

@@ -1,24 +1,20 @@
 use Rattle.std.proofs.Common.{◌∙◌}
 use Rattle.std.proofs.lemmas.Result.{on_ok_weaker}
-use Rattle.flow.proofs.Reading.{as_item, as_value, begun_at, empty_at, ended_at, entry_past, goes_on_at, group_at, value_past}
+use Rattle.flow.proofs.Reading.{as_item, begun_at, empty_at, ended_at, entry_past, goes_on_at, group_at, value_past}
 use Rattle.flow.specs.Content.{is_map}
 use Rattle.flow.proofs.cursor.Cursor.+value.Goals as goal
 
-pub read_value-returns-in-91-clause-reads : goal.read_value-returns-in-91-clause-reads
-read_value-returns-in-91-clause-reads t c =
-    on_ok_weaker c.read_group.result (value_past _ _ _ _ _ c.next_token.ensures.input c.next_token.ensures.place) c.read_group.ensures.reads
-
-pub read_value-returns-in-123-clause-reads : goal.read_value-returns-in-123-clause-reads
-read_value-returns-in-123-clause-reads t c =
-    on_ok_weaker c.read_group-in-123.result (value_past _ _ _ _ _ c.next_token.ensures.input c.next_token.ensures.place) c.read_group-in-123.ensures.reads
-
-pub read_value-returns-in-34-clause-reads : goal.read_value-returns-in-34-clause-reads
-read_value-returns-in-34-clause-reads t c =
-    on_ok_weaker c.read_scalar.result (λ r. value_past _ _ _ _ _ c.next_token.ensures.input c.next_token.ensures.place (as_value _ _ _ _ r)) c.read_scalar.ensures.reads
-
 pub read_value-returns-in_default-clause-reads : goal.read_value-returns-in_default-clause-reads
 read_value-returns-in_default-clause-reads t c =
-    on_ok_weaker c.read_word.result (value_past _ _ _ _ _ c.next_token.ensures.input c.next_token.ensures.place) c.read_word.ensures.reads
+    on_ok_weaker c.read_leaf.result (value_past _ _ _ _ _ c.next_token.ensures.input c.next_token.ensures.place) c.read_leaf.ensures.reads
+
+pub read_value-returns-clause-reads : goal.read_value-returns-clause-reads
+read_value-returns-clause-reads t c =
+    let here = c.in_ok-byte.ensures.byte in
+    value_past _ _ _ _ _ c.next_token.ensures.input c.next_token.ensures.place
+    (group_at (is_map c.in-Some.group) c.next_token.new.self _ _ _ _ _ _ _ c.skip.ensures.input c.skip.ensures.place (here.1 ∙ c.in-Some.ensures) here.0
+    (c.len-node.ensures ∙ c.args.arrays.now.nodes.ok.0) c.in_ok-left.ensures.nodes c.open_group.ensures.text c.in_ok-read_items.ensures.reads
+    c.close.ensures.nodes c.close.ensures.text)
 
 pub read_entry-returns-clause-reads : goal.read_entry-returns-clause-reads
 read_entry-returns-clause-reads t c =
@@ -28,12 +24,6 @@ read_entry-returns-clause-reads t c =
 
 pub read_item-returns-in-List-clause-reads : goal.read_item-returns-in-List-clause-reads
 read_item-returns-in-List-clause-reads t c = rw c.in-List.is (on_ok_weaker c.read_value.result (as_item _ _ _ _) c.read_value.ensures.reads)
-
-pub read_group-returns-clause-reads : goal.read_group-returns-clause-reads
-read_group-returns-clause-reads t c =
-    group_at (is_map c.args.group) _ _ _ _ _ _ _ _ c.skip.ensures.input c.skip.ensures.place c.requires.at_opening c.requires.in_bounds
-    (c.len-node.ensures ∙ c.args.arrays.now.nodes.ok.0) c.in_ok-left.ensures.nodes c.open_group.ensures.text c.in_ok-read_items.ensures.reads
-    c.close.ensures.nodes c.close.ensures.text
 
 pub read_items-returns-then-branch-clause-reads : goal.read_items-returns-then-branch-clause-reads
 read_items-returns-then-branch-clause-reads t c = empty_at (is_map c.args.group) _ _ _ _ c.if-branch.true c.in_ok-read_closing.ensures.is

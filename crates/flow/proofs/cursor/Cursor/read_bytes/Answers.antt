@@ -1,9 +1,6 @@
-use Rattle.std.proofs.Common.{sym, ap, ◌∙◌, arith, rules}
-use Rattle.flow.proofs.Pieces.{halfway_none, halfway_more, inside_closed}
+use Rattle.std.proofs.Common.{sym, ap, ◌∙◌, arith}
+use Rattle.flow.proofs.Pieces.{halfway_more, inside_closed}
 use Rattle.flow.proofs.cursor.Cursor.read_bytes.Goals as goal
-
-pub loop-byte-init : goal.loop-byte-init
-loop-byte-init c = record { input = search rules; onward = omega arith; nodes = search rules; text = halfway_none _ _ _ }
 
 pub returns-then-byte-eq34-clause-text : goal.returns-then-byte-eq34-clause-text
 returns-then-byte-eq34-clause-text c =
