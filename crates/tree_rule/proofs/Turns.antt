@@ -1,10 +1,11 @@
 -- Keys and values in turn, from the middle of a walk.
-use Rattle.std.proofs.Common.{◌≡◌, ℕ, ◌<◌, ◌≤◌, Bool, true, false, not, ◌⊎◌, List, [], ◌∷◌, ◌++◌, sym, refl, ap, ◌∙◌, inl, inr, append_assoc, append-nil}
-use Rattle.std.proofs.lemmas.Bool.{true≢false, cases_lt}
+use Rattle.std.proofs.Common.{◌≡◌, ℕ, suc, arith, ◌<◌, ◌≤◌, ◌%◌, ◌==◌, Decides, length, Bool, true, false, not, ◌⊎◌, List, [], ◌∷◌, ◌++◌, map, sym, refl, ap, ◌∙◌, inl, inr, append_assoc, append-nil}
+use Rattle.std.specs.List.{AllByRecursion}
+use Rattle.std.proofs.lemmas.Bool.{true≢false, false≢true, cases_lt}
 use Rattle.tree_rule.specs.declared.node.RawNode.{RawNode}
-use Rattle.tree_rule.specs.Nodes.{at, from, keys_of}
+use Rattle.tree_rule.specs.Nodes.{at, from, keys_of, entries_of, Forward}
 use Rattle.tree_rule.specs.Rule.{InTurn}
-use Rattle.tree_rule.proofs.Walks.{Forward, from_here, from_past}
+use Rattle.tree_rule.proofs.Walks.{from_here, from_past}
 
 -- the flag says whether a key has come whose value has not
 abbrev pub Turn : Bool → List ℕ → Type 0
@@ -66,3 +67,33 @@ keys_more o o' k v ws ws' all p w h =
 
 pub keys_done : (o : List ℕ) (ns : List RawNode) (e c : ℕ) (all : List ℕ) → e ≤ c → o ++ keys_of (from ns e c) ≡ all → o ≡ all
 keys_done o ns e c all h k = sym (append-nil o) ∙ sym (ap (λ (xs : List ℕ). o ++ keys_of xs) (from_past ns e c h)) ∙ k
+
+-- keys and values go on in turn exactly if there is an even number of them
+pub in_turn_even : (ks : List ℕ) → Decides (length ks % 2 == 0) (InTurn ks)
+in_turn_even [] = (λ _. tt, λ _. refl)
+in_turn_even (k ∷ []) = (λ e. absurd (false≢true e), λ t. absurd t)
+in_turn_even (k ∷ v ∷ ks) =
+    let t = in_turn_even ks in
+    let e : suc (suc (length ks)) % 2 ≡ length ks % 2 = omega arith in
+    rw e t
+
+-- the keys are the first halves of the entries
+pub keys_entries : (ks : List ℕ) → InTurn ks → map (λ (p : ℕ × ℕ). p.0) (entries_of ks) ≡ keys_of ks
+keys_entries [] t = refl
+keys_entries (k ∷ []) t = absurd t
+keys_entries (k ∷ v ∷ ks) t = ap (λ (xs : List ℕ). k ∷ xs) (keys_entries ks t)
+
+pub entries_within : (P : ℕ → Type 0) (ks : List ℕ) → AllByRecursion P ks → AllByRecursion (λ (p : ℕ × ℕ). P p.0) (entries_of ks)
+entries_within P [] h = tt
+entries_within P (k ∷ []) h = tt
+entries_within P (k ∷ v ∷ ks) h = (h.0, entries_within P ks h.1.1)
+
+pub keys_length : (ks : List ℕ) → length (keys_of ks) ≤ length ks
+keys_length [] = omega arith
+keys_length (k ∷ []) = omega arith
+keys_length (k ∷ v ∷ ks) = omega (arith, keys_length ks)
+
+pub keys_within : (P : ℕ → Type 0) (ks : List ℕ) → AllByRecursion P ks → AllByRecursion P (keys_of ks)
+keys_within P [] h = tt
+keys_within P (k ∷ []) h = h
+keys_within P (k ∷ v ∷ ks) h = (h.0, keys_within P ks h.1.1)
