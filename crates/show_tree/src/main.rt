@@ -13,7 +13,7 @@ use flow::Arrays;
 use show::show_nodes;
 use std::io::Read;
 use tree::Workspace;
-use words::{misread_words, refusal_words};
+use words::misread_words;
 
 /// Whether a line begins here.
 fn is_line_start(input: &[u8], place: usize) -> bool
@@ -89,13 +89,13 @@ fn show_document(
         println!(rt; "line {line}, byte {}: {words}", from + misread.place)?;
         return Ok(());
     }
-    let (tree, refusal) = arrays.tree(work);
-    if let Some(refusal) = refusal {
-        let words = refusal_words(refusal);
-        println!(rt; "no tree: {words} ({refusal:?})")?;
-        return Ok(());
+    match arrays.tree(work) {
+        Ok(tree) => show_nodes(rt, tree),
+        Err(refusal) => {
+            println!(rt; "no tree: {refusal} ({refusal:?})")?;
+            Ok(())
+        }
     }
-    show_nodes(rt, tree)
 }
 
 fn run(rt: &HostRuntime) -> anyhow::Result<()> {

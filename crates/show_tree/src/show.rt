@@ -1,5 +1,5 @@
-ghost use Rattle.std.specs.Prelude.{◌≡◌, ◌≤◌, IfOk, vec_len};
-ghost use Rattle.show_tree.specs.Lines.{Deepened, Forgot, kind_word};
+ghost use Rattle.std.specs.Prelude.{◌≤◌, IfOk, vec_len};
+ghost use Rattle.show_tree.specs.Lines.{Deepened, Forgot};
 
 use tree::{Kind, Tree};
 
@@ -21,20 +21,6 @@ fn depth_of(ends: &mut Vec<usize>, node: usize, end: usize) -> anyhow::Result<us
     let depth = ends.len();
     ends.push(end)?;
     Ok(depth)
-}
-
-/// The name of a kind.
-fn kind_word(kind: Kind) -> &'static str
-    ensures { result.now ≡ kind_word kind }
-{
-    match kind {
-        Kind::Other => "other",
-        Kind::Boolean => "boolean",
-        Kind::Integer => "integer",
-        Kind::String => "string",
-        Kind::List => "list",
-        Kind::Map => "map",
-    }
 }
 
 /// Shows what a node holds itself.
@@ -74,8 +60,7 @@ fn show_node(
         print!(rt; "  ")?;
     }
     if let Ok(kind) = tree.kind(node) {
-        let word = kind_word(kind);
-        print!(rt; "{node} {word} end {end}")?;
+        print!(rt; "{node} {kind} end {end}")?;
         show_content(rt, tree, node, kind)?;
     }
     println!(rt; "")?;

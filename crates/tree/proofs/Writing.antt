@@ -5,13 +5,12 @@ use Rattle.std.proofs.ByRecursion.{All-from_get_or}
 use Rattle.std.specs.List.{AllByRecursion}
 use Rattle.std.proofs.lemmas.Bool.{cases_lt}
 use Rattle.tree_rule.specs.declared.node.RawNode.{RawNode}
-use Rattle.tree_rule.specs.Nodes.{at, none, raw, bytes, children, keys_of}
+use Rattle.tree_rule.specs.Nodes.{at, none, raw, bytes, children, keys_of, Forward}
 use Rattle.tree_rule.specs.Rule.{Right, Filled, Paired, Distinct, InTurn, Nests, Apart, Equal, Leaf, Known, Truth, Ends, Lies, Spelled}
 use Rattle.tree.specs.Values.{Value, Items, Entries, other, boolean, integer, string, list, map, no_item, item, no_entry, entry, Stands, Row, Pairs, number, numbers}
 use Rattle.tree.specs.Questions.{held, item_numbers, entry_numbers}
 use Rattle.tree.specs.Limits.{size, items_size, entries_size, spelling, Fair, ItemsFair, EntriesFair, Deep, ItemsDeep, EntriesDeep, map_keys, SameKey, key_of, by_text, by_number, Within, Written, Stored}
 use Rattle.tree.proofs.Laying.{width, nodes_of, Laid, LaidItems, LaidEntries, nodes_size, laid_out}
-use Rattle.tree_rule.proofs.Walks.{Forward}
 use Rattle.tree.proofs.Chains.{held_children}
 use Rattle.tree_rule.proofs.Nesting.{nests_node}
 

@@ -1,10 +1,12 @@
 -- Facts of the rule have one proof at most, so a type can keep them.
-use Rattle.std.specs.Prelude.{◌≡◌, ℕ, ◌⊎◌, List, [], ◌∷◌, ℤ, pos}
+use Rattle.std.specs.Prelude.{◌≡◌, ℕ, zero, suc, ◌⊎◌, List, [], ◌∷◌, ℤ, pos}
+use Rattle.std.specs.List.{AllByRecursion-prop}
 use Rattle.std.proofs.Common.{ap, inl, inr}
 use Rattle.std.proofs.Props.{props}
 use Rattle.tree_rule.specs.declared.node.RawNode.{RawNode}
+use Rattle.tree_rule.specs.Nodes.{children}
 use Rattle.tree_rule.specs.Refusals.{Each, Holds, Sized}
-use Rattle.tree_rule.specs.Rule.{Truth, Right, InTurn}
+use Rattle.tree_rule.specs.Rule.{Truth, Right, InTurn, Nests, Apart, Distinct, Formed}
 
 pub sized_prop : (ns : List RawNode) (text : List ℕ) → IsProp (Sized ns text)
 sized_prop ns text = Prim.hlevel props
@@ -37,3 +39,18 @@ holds_prop ns i = Prim.hlevel (props, in_turn_prop)
 
 pub each_holds_prop : (ns : List RawNode) → IsProp (Each ns (Holds ns))
 each_holds_prop ns = Prim.hlevel (props, holds_prop)
+
+nests_prop : (deep : ℕ) (ns : List RawNode) (i : ℕ) → IsProp (Nests deep ns i)
+unfolding Nests
+nests_prop zero ns i = Prim.hlevel props
+nests_prop (suc deep) ns i = AllByRecursion-prop (Nests deep ns) (nests_prop deep ns) (children ns i)
+
+apart_prop : (R : ℕ → ℕ → Type 0) (ks : List ℕ) → IsProp (Apart R ks)
+apart_prop R [] = Prim.hlevel props
+apart_prop R (k ∷ ks) = Prim.hlevel (props, apart_prop R ks)
+
+distinct_prop : (ns : List RawNode) (text : List ℕ) (i : ℕ) → IsProp (Distinct ns text i)
+distinct_prop ns text i = Prim.hlevel (props, apart_prop)
+
+pub formed_prop : (ns : List RawNode) (text : List ℕ) → IsProp (Formed ns text)
+formed_prop ns text = Prim.hlevel (props, right_prop, in_turn_prop, nests_prop, distinct_prop)

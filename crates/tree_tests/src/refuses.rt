@@ -29,8 +29,7 @@ fn refused<'a>(
     refusal: Refusal,
 ) -> Result<(), Fail> {
     let mut work = Workspace::new(rt.alloc())?;
-    let (_, found) = tree::check(nodes, bytes, &mut work);
-    assert_eq!(rt; found, Some(refusal));
+    assert_eq!(rt; tree::check(nodes, bytes, &mut work).err(), Some(refusal));
     Ok(())
 }
 
@@ -219,8 +218,7 @@ fn nesting(rt: HostRuntime) -> Result<(), Fail> {
     refused(&rt, nodes.as_slice(), b"", Refusal::TooDeep)?;
     let nodes = chain(&rt, 64)?;
     let mut work = Workspace::new(rt.alloc())?;
-    let (tree, refusal) = tree::check(nodes.as_slice(), b"", &mut work);
-    assert_eq!(rt; refusal, None);
+    let tree = tree::check(nodes.as_slice(), b"", &mut work)?;
     assert_eq!(rt; tree.len(), 64);
     Ok(())
 }
