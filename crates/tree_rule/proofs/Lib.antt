@@ -1,5 +1,4 @@
 pub mod Alls
-pub mod Apart
 pub mod Nesting
 pub mod Refused
 pub mod Turns

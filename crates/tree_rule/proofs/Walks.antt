@@ -84,10 +84,3 @@ from_here ns e c fw l = one_less e ns c fw l
 pub all_here : (P : ℕ → Type 0) (ns : List RawNode) (e c : ℕ) → Forward ns e → c < e →
     AllByRecursion P (from ns e c) → P c × AllByRecursion P (from ns e (at ns c).end)
 all_here P ns e c fw l h = let e = from_here ns e c fw l in rw e at h
-
-pub all_back : (P : ℕ → Type 0) (ns : List RawNode) (e c : ℕ) → Forward ns e → c < e →
-    P c × AllByRecursion P (from ns e (at ns c).end) → AllByRecursion P (from ns e c)
-all_back P ns e c fw l h = let e = from_here ns e c fw l in rw e h
-
-pub all_past : (P : ℕ → Type 0) (ns : List RawNode) (e c : ℕ) → e ≤ c → AllByRecursion P (from ns e c)
-all_past P ns e c h = let e = from_past ns e c h in rw e tt

@@ -2,6 +2,7 @@ use std::process::Abort;
 use std::test::Fail;
 use tree::{Fault, Kind, RawNode, Refusal, Workspace};
 
+// A kind is any number here, since a reader may hand in one that names none.
 pub(crate) fn node(kind: impl Into<u32>, end: u32, number: i64) -> RawNode {
     RawNode {
         kind: kind.into(),
