@@ -100,6 +100,7 @@ impl<'a> Tree<'a> {
         requires { map < length self.now.nodes.now }
         ensures { (es : Entries) → Pairs self.now.nodes.now self.now.text.now (map + 1) (at self.now.nodes.now map).end es → find name.now es ≡ result }
     {
+        // Written out, since a public function that made them would have to ask for facts of the rule.
         let children = Children {
             nodes: self.nodes,
             next: map + 1,

@@ -18,6 +18,7 @@ pub(crate) struct Sound<'a> {
     ghost right: { Each nodes.now (Right nodes.now text.now) } by { each_right_prop nodes.now text.now },
 }
 
+// A node's number stays an index whose bound is asked for: a type for it would have to hold the nodes once more.
 impl<'a> Sound<'a> {
     /// The children of node `i`.
     pub(crate) fn children(&self, i: usize) -> Children<'a>
