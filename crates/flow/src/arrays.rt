@@ -1,4 +1,4 @@
-ghost use Rattle.std.specs.Prelude.{◌≡◌, ◌+◌, ◌≤◌, [], ◌∷◌, ◌++◌, length, vec_len, MatchResult};
+ghost use Rattle.std.specs.Prelude.{◌≡◌, ◌+◌, ◌≤◌, [], ◌∷◌, ◌++◌, length, vec_len, IfOk, MatchResult};
 ghost use Rattle.tree.specs.Checked.{Checked};
 ghost use Rattle.tree.specs.Meaning.{Means};
 ghost use Rattle.flow.specs.Content.{node_of};
@@ -30,9 +30,9 @@ impl Arrays {
     }
 
     /// The tree that was read, if it is one.
-    pub fn tree<'a>(&'a self, work: &mut Workspace) -> (Tree<'a>, Option<Refusal>)
-        ensures answer { Checked self.now.nodes.items self.now.text.items result.0 result.1 }
-        ensures meaning { Means result.0.nodes.now result.0.text.now }
+    pub fn tree<'a>(&'a self, work: &mut Workspace) -> Result<Tree<'a>, Refusal>
+        ensures answer { Checked self.now.nodes.items self.now.text.items result }
+        ensures meaning { IfOk result (λ tree. Means tree.nodes.now tree.text.now) }
     {
         tree::check(self.nodes.as_slice(), self.text.as_slice(), work)
     }

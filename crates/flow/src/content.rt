@@ -1,7 +1,7 @@
 ghost use Rattle.std.specs.Prelude.{◌≡◌, ◌≢◌, MatchOption};
 ghost use Rattle.flow.specs.Content.{closing_of, node_of, opening_of};
 
-use tree::RawNode;
+use tree::{Kind, RawNode};
 
 /// What holds other nodes.
 #[derive(Clone, Copy)]
@@ -50,7 +50,7 @@ impl Content {
         ensures { result ≡ node_of self end }
     {
         let empty = RawNode {
-            kind: 0,
+            kind: u32::from(Kind::Other),
             end,
             place: 0,
             length: 0,
@@ -59,23 +59,29 @@ impl Content {
         match self {
             Content::Null => empty,
             Content::Boolean(value) => RawNode {
-                kind: 1,
+                kind: u32::from(Kind::Boolean),
                 number: i64::from(value),
                 ..empty
             },
             Content::Integer(number) => RawNode {
-                kind: 2,
+                kind: u32::from(Kind::Integer),
                 number,
                 ..empty
             },
             Content::Text { place, length } => RawNode {
-                kind: 3,
+                kind: u32::from(Kind::String),
                 place,
                 length,
                 ..empty
             },
-            Content::Group(Group::List) => RawNode { kind: 4, ..empty },
-            Content::Group(Group::Map) => RawNode { kind: 5, ..empty },
+            Content::Group(Group::List) => RawNode {
+                kind: u32::from(Kind::List),
+                ..empty
+            },
+            Content::Group(Group::Map) => RawNode {
+                kind: u32::from(Kind::Map),
+                ..empty
+            },
         }
     }
 }

@@ -1,4 +1,4 @@
-ghost use Rattle.std.specs.Prelude.{◌≡◌, ℕ, ◌+◌, ◌-◌, ◌<◌, ◌≤◌, true, false, length, take, count_by, MatchOption};
+ghost use Rattle.std.specs.Prelude.{◌≡◌, ℕ, ◌+◌, ◌-◌, ◌<◌, ◌≤◌, true, false, length, take, count_by, slice_range, MatchOption};
 ghost use Rattle.std.specs.Iterator.{at_most};
 ghost use Rattle.show_tree.specs.Lines.{is_line_feed, is_mark};
 
@@ -57,7 +57,7 @@ pub(crate) struct Document<'a> {
 
 impl<'a> Document<'a> {
     pub(crate) fn bytes(&self) -> &'a [u8]
-        ensures { length result.now + self.now.from ≤ length self.now.input.now }
+        ensures { result.now ≡ slice_range self.now.input.now self.now.from self.now.end }
     {
         &self.input[self.from..self.end]
     }
@@ -72,7 +72,10 @@ pub(crate) struct Documents<'a> {
 }
 
 impl<'a> Documents<'a> {
-    pub(crate) fn of(input: &'a [u8]) -> Self {
+    pub(crate) fn of(input: &'a [u8]) -> Self
+        ensures input { result.input ≡ input.entry }
+        ensures from { result.from ≡ 0 }
+    {
         Documents { input, from: 0 }
     }
 }

@@ -4,14 +4,12 @@
 
 mod documents;
 mod show;
-mod words;
 
 use documents::{Document, Documents, line_of};
 use flow::Arrays;
 use show::show_nodes;
 use std::io::Read;
 use tree::Workspace;
-use words::refusal_words;
 
 /// Shows the tree of one document, or why there is none.
 fn show_document(
@@ -27,13 +25,13 @@ fn show_document(
         println!(rt; "line {line}, byte {place}: {reason}")?;
         return Ok(());
     }
-    let (tree, refusal) = arrays.tree(work);
-    if let Some(refusal) = refusal {
-        let words = refusal_words(refusal);
-        println!(rt; "no tree: {words} ({refusal:?})")?;
-        return Ok(());
+    match arrays.tree(work) {
+        Ok(tree) => show_nodes(rt, tree),
+        Err(refusal) => {
+            println!(rt; "no tree: {refusal} ({refusal:?})")?;
+            Ok(())
+        }
     }
-    show_nodes(rt, tree)
 }
 
 fn run(rt: &HostRuntime) -> anyhow::Result<()> {

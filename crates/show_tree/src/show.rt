@@ -1,5 +1,5 @@
-ghost use Rattle.std.specs.Prelude.{◌≡◌, ◌<◌, ◌≤◌, ◌-◌, ℕ, IfOk, length, slice_index, vec_len};
-ghost use Rattle.show_tree.specs.Lines.{Deepened, Forgot, kind_word};
+ghost use Rattle.std.specs.Prelude.{◌<◌, ◌≤◌, ◌-◌, ℕ, IfOk, length, slice_index};
+ghost use Rattle.show_tree.specs.Lines.{Deepened};
 
 use tree::{Kind, Tree};
 
@@ -14,79 +14,36 @@ fn around(ends: &[usize], node: usize) -> usize
         .map_or(0, |last| last + 1)
 }
 
-/// Forgets the nodes that have ended before this one.
-fn forget_ended(ends: &mut Vec<usize>, node: usize)
-    ensures shorter { vec_len ends.new ≤ vec_len ends.old }
-    ensures forgot { Forgot node ends.old.items ends.new.items }
-{
-    ends.truncate(around(ends, node));
-}
-
 /// How many nodes lie around this one, which joins them for the nodes that follow.
 fn depth_of(ends: &mut Vec<usize>, node: usize, end: usize) -> anyhow::Result<usize>
     ensures { IfOk result (λ depth. Deepened node end depth ends.old.items ends.new.items) }
 {
-    forget_ended(ends, node);
-    let depth = ends.len();
+    let depth = around(ends, node);
+    ends.truncate(depth);
     ends.push(end)?;
     Ok(depth)
 }
 
-/// The name of a kind.
-fn kind_word(kind: Kind) -> &'static str
-    ensures { result.now ≡ kind_word kind }
-{
-    match kind {
-        Kind::Other => "other",
-        Kind::Boolean => "boolean",
-        Kind::Integer => "integer",
-        Kind::String => "string",
-        Kind::List => "list",
-        Kind::Map => "map",
-    }
-}
-
 /// Shows what a node holds itself.
-fn show_content(rt: &HostRuntime, tree: Tree<'_>, node: usize, kind: Kind) -> anyhow::Result<()> {
-    match kind {
-        Kind::Boolean => {
-            if let Ok(value) = tree.boolean(node) {
-                print!(rt; " {value}")?;
-            }
-        }
-        Kind::Integer => {
-            if let Ok(value) = tree.integer(node) {
-                print!(rt; " {value}")?;
-            }
-        }
-        Kind::String => {
-            if let Ok(bytes) = tree.text(node) {
-                if let Ok(text) = std::str::from_utf8(bytes) {
-                    print!(rt; " {text:?}")?;
-                }
-            }
-        }
+fn show_content(rt: &HostRuntime, tree: Tree<'_>, node: usize) -> anyhow::Result<()> {
+    match tree.kind(node)? {
+        Kind::Boolean => print!(rt; " {}", tree.boolean(node)?)?,
+        Kind::Integer => print!(rt; " {}", tree.integer(node)?)?,
+        Kind::String => print!(rt; " {:?}", std::str::from_utf8(tree.text(node)?)?)?,
         Kind::Other | Kind::List | Kind::Map => {}
     }
     Ok(())
 }
 
 /// Shows one node as a line.
-fn show_node(
-    rt: &HostRuntime,
-    tree: Tree<'_>,
-    node: usize,
-    end: usize,
-    depth: usize,
-) -> anyhow::Result<()> {
+fn show_node(rt: &HostRuntime, tree: Tree<'_>, node: usize, depth: usize) -> anyhow::Result<()> {
     for _ in 0..depth {
         print!(rt; "  ")?;
     }
-    if let Ok(kind) = tree.kind(node) {
-        let word = kind_word(kind);
-        print!(rt; "{node} {word} end {end}")?;
-        show_content(rt, tree, node, kind)?;
-    }
+    let kind = tree.kind(node)?;
+    let end = tree.end(node)?;
+    print!(rt; "{node} {kind} end {end}")?;
+    show_content(rt, tree, node)?;
     println!(rt; "")?;
     Ok(())
 }
@@ -95,10 +52,8 @@ fn show_node(
 pub(crate) fn show_nodes(rt: &HostRuntime, tree: Tree<'_>) -> anyhow::Result<()> {
     let mut ends = Vec::new(rt.alloc());
     for node in 0..tree.len() {
-        if let Ok(end) = tree.end(node) {
-            let depth = depth_of(&mut ends, node, end)?;
-            show_node(rt, tree, node, end, depth)?;
-        }
+        let depth = depth_of(&mut ends, node, tree.end(node)?)?;
+        show_node(rt, tree, node, depth)?;
     }
     Ok(())
 }
