@@ -83,6 +83,10 @@ impl<'a> Documents<'a> {
 impl<'a> Iterator for Documents<'a> {
     type Item = Document<'a>;
 
+    ghost use Rattle.show_tree.specs.Documents.{CutsNext};
+
+    ghost next_gives = { CutsNext };
+
     ghost remaining = { λ rest. at_most (length rest.input.now - rest.from) };
 
     fn next(&mut self) -> Option<Document<'a>> {
