@@ -3,6 +3,7 @@ ghost use Rattle.std.specs.List.{prefix_len};
 ghost use Rattle.flow.specs.declared.misread.Reason.TheVariants.{Unfinished};
 ghost use Rattle.flow.specs.Places.{Told};
 ghost use Rattle.flow.specs.Scalars.{is_blank};
+ghost use Rattle.flow.specs.Sofar.{past_blanks};
 
 use crate::misread::{Misread, Reason};
 
@@ -66,15 +67,15 @@ impl<'a> Cursor<'a> {
     /// Goes behind the blanks that stand here.
     pub(crate) fn skip_blanks(&mut self)
         ensures input { self.new.input ≡ self.old.input }
-        ensures place { self.new.place ≡ self.old.place + prefix_len is_blank (drop self.old.place self.old.input.now) }
+        ensures place { self.new.place ≡ past_blanks self.old.input.now self.old.place }
     {
         self.skip(blanks(self.rest()));
     }
 
-    /// The byte behind the blanks, and the place before it.
+    /// Goes behind the blanks, and gives the byte that stands there.
     pub(crate) fn next_token(&mut self) -> Result<u8, Misread>
         ensures input { self.new.input ≡ self.old.input }
-        ensures place { self.new.place ≡ self.old.place + prefix_len is_blank (drop self.old.place self.old.input.now) }
+        ensures place { self.new.place ≡ past_blanks self.old.input.now self.old.place }
         ensures byte { IfOk result (λ b. (self.new.place < length self.new.input.now) × (slice_index self.new.input.now self.new.place ≡ b)) }
         ensures told { IfErr result (λ m. (m.reason ≡ Unfinished) × Told self.old.input.now m) }
     {

@@ -1,5 +1,4 @@
-ghost use Rattle.std.specs.Prelude.{◌≡◌, ◌==◌, cond, take, ℕ, ◌+◌, ◌-◌, ◌*◌, ◌^◌, ◌<◌, ◌≤◌, ◌⊎◌, ◌≢◌, List, ◌∷◌, [], ◌++◌, length, drop, vec_len, IfSome, IfOk, IfErr, OnOk, Ok, Err, MatchResult, slice_index};
-ghost use Rattle.std.proofs.Math.Utf8.{encode};
+ghost use Rattle.std.specs.Prelude.{◌≡◌, ◌==◌, encode_utf8, cond, take, ℕ, ◌+◌, ◌-◌, ◌*◌, ◌^◌, ◌<◌, ◌≤◌, ◌⊎◌, ◌≢◌, List, ◌∷◌, [], ◌++◌, length, drop, vec_len, IfSome, IfOk, IfErr, OnOk, Ok, Err, MatchResult, slice_index};
 ghost use Rattle.flow.specs.Content.{node_of};
 ghost use Rattle.flow.specs.Places.{NoRoom, ReadPiece, Told, Wrote};
 ghost use Rattle.flow.specs.Reads.{Reads};
@@ -15,6 +14,7 @@ use crate::cursor::Cursor;
 use crate::misread::{Misread, Reason};
 
 /// How many digits stand at the front.
+// Beside `blanks` no twin to be joined: one function over both would be longer than each chain, and ask of its closure that it may be called.
 fn digits(bytes: &[u8]) -> usize
     ensures range { result ≤ length bytes.now }
     ensures is { result ≡ prefix_len is_ascii_digit bytes.now }
@@ -109,7 +109,7 @@ fn unicode_escape(bytes: &[u8]) -> Option<(char, usize)>
 /// Writes a character in UTF-8.
 fn push_char(character: char, arrays: &mut Arrays) -> Result<(), Reason>
     ensures nodes { arrays.new.nodes ≡ arrays.old.nodes }
-    ensures text { MatchResult result (λ _. arrays.new.text.items ≡ arrays.old.text.items ++ encode character) (λ e. NoRoom e) }
+    ensures text { MatchResult result (λ _. arrays.new.text.items ≡ arrays.old.text.items ++ encode_utf8 character) (λ e. NoRoom e) }
 {
     let mut utf8 = [0; 4];
     arrays.push_text(character.encode_utf8(&mut utf8).as_bytes())
@@ -150,6 +150,7 @@ fn push_piece(bytes: &[u8], arrays: &mut Arrays) -> Result<usize, Reason>
     }
 }
 
+// The arrays are handed on beside the cursor, and are no part of it: what only moves the cursor leaves them alone, with no clause to say so.
 impl Cursor<'_> {
     /// Writes a node for what stands here.
     pub(crate) fn push(&self, content: Content, arrays: &mut Arrays) -> Result<(), Misread>

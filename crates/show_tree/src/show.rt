@@ -51,6 +51,7 @@ fn show_node(rt: &HostRuntime, tree: Tree<'_>, node: usize, depth: usize) -> any
 /// Shows each node of a tree as a line, further to the right the deeper it lies.
 pub(crate) fn show_nodes(rt: &HostRuntime, tree: Tree<'_>) -> anyhow::Result<()> {
     let mut ends = Vec::new(rt.alloc());
+    // a tree is asked by the numbers of its nodes
     for node in 0..tree.len() {
         let depth = depth_of(&mut ends, node, tree.end(node)?)?;
         show_node(rt, tree, node, depth)?;
