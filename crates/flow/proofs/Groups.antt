@@ -21,33 +21,33 @@ mark b input place end m =
     drop_more input (past_blanks input place) 0 m.0 ∙ ap (λ x. x ∷ drop (past_blanks input place + 1) input) m.1 ∙ ap (λ n. b ∷ drop n input) (sym m.2)
 
 -- what a relation lets stand behind blanks, it lets stand before them too
-abbrev pub Patient : (ℕ → ℕ → List ℕ → List ℕ → List RawNode → List ℕ → Type 0) → Type 0
-Patient K = (n t b : ℕ) (bs rest : List ℕ) (ns : List RawNode) (text : List ℕ) → is_blank b ≡ true → K n t bs rest ns text → K n t (b ∷ bs) rest ns text
+abbrev pub AllowsBlanks : (ℕ → ℕ → List ℕ → List ℕ → List RawNode → List ℕ → Type 0) → Type 0
+AllowsBlanks K = (n t b : ℕ) (bs rest : List ℕ) (ns : List RawNode) (text : List ℕ) → is_blank b ≡ true → K n t bs rest ns text → K n t (b ∷ bs) rest ns text
 
-pub patient_value : Patient Value
-patient_value n t b bs rest ns text e v = blank e v
+pub value_allows_blanks : AllowsBlanks Value
+value_allows_blanks n t b bs rest ns text e v = blank e v
 
-pub patient_items : (m : Bool) → Patient (Items m)
-patient_items m n t b bs rest ns text e v = blank_items m e v
+pub items_allow_blanks : (m : Bool) → AllowsBlanks (Items m)
+items_allow_blanks m n t b bs rest ns text e v = blank_items m e v
 
-pub patient_more : (m : Bool) → Patient (More m)
-patient_more m n t b bs rest ns text e v = blank_more m e v
+pub more_allows_blanks : (m : Bool) → AllowsBlanks (More m)
+more_allows_blanks m n t b bs rest ns text e v = blank_more m e v
 
-pub patient_item : (m : Bool) → Patient (Item m)
-patient_item true n t b bs rest ns text e v = blank_item e v
-patient_item false n t b bs rest ns text e (value v) = value (blank e v)
+pub item_allows_blanks : (m : Bool) → AllowsBlanks (Item m)
+item_allows_blanks true n t b bs rest ns text e v = blank_item e v
+item_allows_blanks false n t b bs rest ns text e (value v) = value (blank e v)
 
-pub patient_bound : Patient Bound
-patient_bound n t b bs rest ns text e v = blank_bound e v
+pub bound_allows_blanks : AllowsBlanks Bound
+bound_allows_blanks n t b bs rest ns text e v = blank_bound e v
 
-pub before_blanks : (K : ℕ → ℕ → List ℕ → List ℕ → List RawNode → List ℕ → Type 0) → Patient K → (input : List ℕ) (place : ℕ) (n t : ℕ) (rest : List ℕ) (ns : List RawNode) (text : List ℕ) →
+pub before_blanks : (K : ℕ → ℕ → List ℕ → List ℕ → List RawNode → List ℕ → Type 0) → AllowsBlanks K → (input : List ℕ) (place : ℕ) (n t : ℕ) (rest : List ℕ) (ns : List RawNode) (text : List ℕ) →
     K n t (drop (past_blanks input place) input) rest ns text → K n t (drop place input) rest ns text
 before_blanks K p input place n t rest ns text k =
     behind_blanks (λ bs. K n t bs rest ns text) (λ b bs e. p n t b bs rest ns text e) (drop place input)
     (subst (λ (bs : List ℕ). K n t bs rest ns text) (sym (past input place)) k)
 
 -- the same of what was read
-pub read_past : (K : ℕ → ℕ → List ℕ → List ℕ → List RawNode → List ℕ → Type 0) → Patient K → (input : List ℕ) (place past end : ℕ) (ns ms : List RawNode) (text texts : List ℕ) →
+pub read_past : (K : ℕ → ℕ → List ℕ → List ℕ → List RawNode → List ℕ → Type 0) → AllowsBlanks K → (input : List ℕ) (place past end : ℕ) (ns ms : List RawNode) (text texts : List ℕ) →
     past ≡ past_blanks input place → Read K input past end ns ms text texts → Read K input place end ns ms text texts
 read_past K p input place past end ns ms text texts e r = record {
   added = r.added;
@@ -98,7 +98,7 @@ goes_on m input place end from to ns ms os text mid texts b c h r = record {
       subst (λ (xs : List RawNode). Items m (length ns) (length text) (drop place input) rest xs ((b.more ++ r.more) ++ us)) (sym (append_assoc b.added r.added ls))
       (subst (λ (xs : List ℕ). Items m (length ns) (length text) (drop place input) rest (b.added ++ (r.added ++ ls)) xs) (sym (append_assoc b.more r.more us))
       (b.is rest (r.added ++ ls) (r.more ++ us)
-      (before_blanks (More m) (patient_more m) input end (length ms) (length mid) rest (r.added ++ ls) (r.more ++ us)
+      (before_blanks (More m) (more_allows_blanks m) input end (length ms) (length mid) rest (r.added ++ ls) (r.more ++ us)
       (subst (λ (bs : List ℕ). More m (length ms) (length mid) bs rest (r.added ++ ls) (r.more ++ us)) (sym (mark 44 input end from c))
       (comma m r.is (follows m ms r.added mid r.more (drop to input) rest ls us os texts r.pushed r.written k))))));
   pushed = r.pushed ∙ ap (λ xs. xs ++ r.added) b.pushed ∙ append_assoc ns b.added r.added;
@@ -115,7 +115,7 @@ ended m input place end to ns ms text texts b c = record {
       subst (λ (xs : List RawNode). Items m (length ns) (length text) (drop place input) (drop to input) xs b.more) (append-nil b.added)
       (subst (λ (xs : List ℕ). Items m (length ns) (length text) (drop place input) (drop to input) (b.added ++ []) xs) (append-nil b.more)
       (b.is (drop to input) [] []
-      (before_blanks (More m) (patient_more m) input end (length ms) (length texts) (drop to input) [] []
+      (before_blanks (More m) (more_allows_blanks m) input end (length ms) (length texts) (drop to input) [] []
       (subst (λ (bs : List ℕ). More m (length ms) (length texts) bs (drop to input) [] []) (sym (mark (closing m) input end to c)) (last m)))));
   pushed = b.pushed;
   written = b.written;
@@ -127,7 +127,7 @@ pub empty : (m : Bool) (input : List ℕ) (place to : ℕ) (ns : List RawNode) (
 empty m input place to ns text c = record {
   added = [];
   more = [];
-  is = before_blanks (Items m) (patient_items m) input place (length ns) (length text) (drop to input) [] []
+  is = before_blanks (Items m) (items_allow_blanks m) input place (length ns) (length text) (drop to input) [] []
       (subst (λ (bs : List ℕ). Items m (length ns) (length text) bs (drop to input) [] []) (sym (mark (closing m) input place to c)) (no_items m));
   pushed = sym (append-nil ns);
   written = sym (append-nil text);
@@ -142,7 +142,7 @@ entry_read input place end from to ns ms os text mid texts k c v = record {
   is = entry k.is
       (subst (λ (n : ℕ). Bound n (length text + length k.more) (drop end input) (drop to input) v.added v.more) (ap length k.pushed ∙ length-append ns k.added)
       (subst (λ (t : ℕ). Bound (length ms) t (drop end input) (drop to input) v.added v.more) (ap length k.written ∙ length-append text k.more)
-      (before_blanks Bound patient_bound input end (length ms) (length mid) (drop to input) v.added v.more
+      (before_blanks Bound bound_allows_blanks input end (length ms) (length mid) (drop to input) v.added v.more
       (subst (λ (bs : List ℕ). Bound (length ms) (length mid) bs (drop to input) v.added v.more) (sym (mark 58 input end from c)) (colon v.is)))));
   pushed = v.pushed ∙ ap (λ xs. xs ++ v.added) k.pushed ∙ append_assoc ns k.added v.added;
   written = v.written ∙ ap (λ xs. xs ++ v.more) k.written ∙ append_assoc text k.more v.more;

@@ -21,17 +21,17 @@ character_pair bs u next e n f =
     ap (character_from bs) e ∙ cond-false (scalar u) (Some (u, 6)) (paired_with u (code_unit (drop 6 bs))) (off (scalar u) n) ∙ ap (paired_with u) f
 
 -- the bytes of a string so far: whatever the rest of it is, they stand before it
-pub record Halfway (input : List ℕ) (from place : ℕ) (text texts : List ℕ) : Type 0 where
+pub record InsideSoFar (input : List ℕ) (from place : ℕ) (text texts : List ℕ) : Type 0 where
   pub these : List ℕ
   pub written : texts ≡ text ++ these
   pub is : (those rest : List ℕ) → Inside (drop place input) rest those → Inside (drop from input) rest (these ++ those)
 
-pub halfway_none : (input : List ℕ) (from : ℕ) (text : List ℕ) → Halfway input from from text text
-halfway_none input from text = record { these = []; written = sym (append-nil text); is = λ those rest i. i }
+pub so_far_none : (input : List ℕ) (from : ℕ) (text : List ℕ) → InsideSoFar input from from text text
+so_far_none input from text = record { these = []; written = sym (append-nil text); is = λ those rest i. i }
 
-more_half : (input : List ℕ) (from place end : ℕ) (text mid texts : List ℕ) → Halfway input from place text mid →
-    place < length input → (get_or input place 0 ≡ 34 → ⊥) → ReadPiece input place end mid texts → Halfway input from end text texts
-more_half input from place end text mid texts so h n r = record {
+more_here : (input : List ℕ) (from place end : ℕ) (text mid texts : List ℕ) → InsideSoFar input from place text mid →
+    place < length input → (get_or input place 0 ≡ 34 → ⊥) → ReadPiece input place end mid texts → InsideSoFar input from end text texts
+more_here input from place end text mid texts so h n r = record {
   these = so.these ++ r.these;
   written = r.written ∙ ap (λ xs. xs ++ r.these) so.written ∙ append_assoc text so.these r.these;
   is = λ those rest i.
@@ -41,10 +41,10 @@ more_half input from place end text mid texts so h n r = record {
       (subst (λ (bs : List ℕ). Inside bs rest those) (ap (λ n. drop n input) r.there ∙ sym (drop-drop r.width place input)) i)));
 }
 
-closed_half : (input : List ℕ) (from place end : ℕ) (text texts : List ℕ) → Halfway input from place text texts →
+closed_here : (input : List ℕ) (from place end : ℕ) (text texts : List ℕ) → InsideSoFar input from place text texts →
     place < length input → get_or input place 0 ≡ 34 → end ≡ place + 1 →
     (ts : List ℕ) × Inside (drop from input) (drop end input) ts × (texts ≡ text ++ ts)
-closed_half input from place end text texts so h e there = (
+closed_here input from place end text texts so h e there = (
   so.these ++ [],
   so.is [] (drop end input)
       (subst (λ (bs : List ℕ). Inside bs (drop end input) [])
@@ -53,17 +53,17 @@ closed_half input from place end text texts so h e there = (
 )
 
 -- the same where the cursor's input is only equal
-pub halfway_more : (input here : List ℕ) (from place end : ℕ) (text mid texts : List ℕ) → here ≡ input → Halfway input from place text mid →
-    place < length here → (get_or here place 0 ≡ 34 → ⊥) → ReadPiece here place end mid texts → Halfway input from end text texts
-halfway_more input here from place end text mid texts same so h n r =
-    more_half input from place end text mid texts so (subst (λ (xs : List ℕ). place < length xs) same h)
+pub so_far_more : (input here : List ℕ) (from place end : ℕ) (text mid texts : List ℕ) → here ≡ input → InsideSoFar input from place text mid →
+    place < length here → (get_or here place 0 ≡ 34 → ⊥) → ReadPiece here place end mid texts → InsideSoFar input from end text texts
+so_far_more input here from place end text mid texts same so h n r =
+    more_here input from place end text mid texts so (subst (λ (xs : List ℕ). place < length xs) same h)
     (subst (λ (xs : List ℕ). get_or xs place 0 ≡ 34 → ⊥) same n) (subst (λ (xs : List ℕ). ReadPiece xs place end mid texts) same r)
 
-pub inside_closed : (input here : List ℕ) (from place end : ℕ) (text texts : List ℕ) → here ≡ input → Halfway input from place text texts →
+pub inside_closed : (input here : List ℕ) (from place end : ℕ) (text texts : List ℕ) → here ≡ input → InsideSoFar input from place text texts →
     place < length here → get_or here place 0 ≡ 34 → end ≡ place + 1 →
     (ts : List ℕ) × Inside (drop from input) (drop end input) ts × (texts ≡ text ++ ts)
 inside_closed input here from place end text texts same so h e there =
-    closed_half input from place end text texts so (subst (λ (xs : List ℕ). place < length xs) same h)
+    closed_here input from place end text texts so (subst (λ (xs : List ℕ). place < length xs) same h)
     (subst (λ (xs : List ℕ). get_or xs place 0 ≡ 34) same e) there
 
 -- a quote, and then the inside of a string

@@ -8,7 +8,7 @@ use Rattle.flow.specs.Flow.{Key, Value, Items, Item, closing, opening, kind_of, 
 use Rattle.flow.specs.Places.{Read}
 use Rattle.flow.specs.Reads.{Reads}
 use Rattle.flow.specs.Sofar.{ending_here, past_blanks, Behind, IsEnd}
-use Rattle.flow.proofs.Groups.{Begun, begun, goes_on, ended, empty, patient_item, patient_value, read_past, entry_read, group_read}
+use Rattle.flow.proofs.Groups.{Begun, begun, goes_on, ended, empty, item_allows_blanks, value_allows_blanks, read_past, entry_read, group_read}
 
 -- by a cursor with the same input
 pub read_at : (K : ℕ → ℕ → List ℕ → List ℕ → List RawNode → List ℕ → Type 0) (c d e : Cursor) (a b : Arrays) → d.input ≡ c.input → Reads K d e a b →
@@ -34,7 +34,7 @@ as_item c d a b r = record {
 pub value_past : (c d e : Cursor) (a b : Arrays) → d.input ≡ c.input → d.place ≡ past_blanks c.input.now c.place → Reads Value d e a b → Reads Value c e a b
 value_past c d e a b same there r = record {
   onward = omega (arith, there, r.onward);
-  read = read_past Value patient_value c.input.now c.place d.place e.place a.nodes.items b.nodes.items a.text.items b.text.items there (read_at Value c d e a b same r);
+  read = read_past Value value_allows_blanks c.input.now c.place d.place e.place a.nodes.items b.nodes.items a.text.items b.text.items there (read_at Value c d e a b same r);
 }
 
 -- blanks, and then a key, a colon and a value
@@ -42,7 +42,7 @@ pub entry_past : (c d e f g : Cursor) (a b z : Arrays) → d.input ≡ c.input �
     Reads Key d e a b → Behind 58 e.input.now e.place f.place → Reads Value f g b z → Reads (Item true) c g a z
 entry_past c d e f g a b z same there s t k m v = record {
   onward = omega (arith, there, k.onward, v.onward, m.2);
-  read = read_past (Item true) (patient_item true) c.input.now c.place d.place g.place a.nodes.items z.nodes.items a.text.items z.text.items there
+  read = read_past (Item true) (item_allows_blanks true) c.input.now c.place d.place g.place a.nodes.items z.nodes.items a.text.items z.text.items there
       (entry_read c.input.now d.place e.place f.place g.place a.nodes.items b.nodes.items z.nodes.items a.text.items b.text.items z.text.items
       (read_at Key c d e a b same k) (behind_at 58 c e f.place (s ∙ same) m) (read_at Value c f g b z (t ∙ s ∙ same) v));
 }
@@ -72,7 +72,7 @@ pub begun_at : (m : Bool) (c d e : Cursor) (a z : Arrays) (b : Bool) → d.input
 begun_at m c d e a z b same f i r =
     let there : d.place ≡ past_blanks c.input.now c.place = (subst (λ x. IsEnd x (closing m) c.input.now c.place d.place) f i).0 in
     begun m c.input.now c.place e.place a.nodes.items z.nodes.items a.text.items z.text.items (omega (arith, there, r.onward))
-    (read_past (Item m) (patient_item m) c.input.now c.place d.place e.place a.nodes.items z.nodes.items a.text.items z.text.items there (read_at (Item m) c d e a z same r))
+    (read_past (Item m) (item_allows_blanks m) c.input.now c.place d.place e.place a.nodes.items z.nodes.items a.text.items z.text.items there (read_at (Item m) c d e a z same r))
 
 -- a comma and one item more
 pub goes_on_at : (m : Bool) (c l d e : Cursor) (a b z : Arrays) (more : Bool) → l.input ≡ c.input → d.input ≡ l.input → more ≡ true →

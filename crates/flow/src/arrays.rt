@@ -11,6 +11,7 @@ use std::alloc::Global;
 use tree::{MAX_NODES, MAX_TEXT, RawNode, Refusal, Tree, Workspace};
 
 /// The nodes and the text that a document is read into.
+// Two vectors side by side, since the rule takes nodes and text so, also from a reader in C.
 #[derive(Drop)]
 pub struct Arrays {
     pub(crate) nodes: Vec<RawNode>,

@@ -1,5 +1,5 @@
 use Rattle.std.proofs.Common.{sym, ap, ◌∙◌, arith}
-use Rattle.flow.proofs.Pieces.{halfway_more, inside_closed}
+use Rattle.flow.proofs.Pieces.{so_far_more, inside_closed}
 use Rattle.flow.proofs.cursor.Cursor.read_bytes.Goals as goal
 
 pub returns-then-byte-eq34-clause-text : goal.returns-then-byte-eq34-clause-text
@@ -15,6 +15,6 @@ loop-byte-preserved c =
       input = c.read_piece.ensures.input ∙ c.loop-byte.invariant.input;
       onward = omega (arith, c.in_ok-read_piece.ensures.onward);
       nodes = c.read_piece.ensures.nodes ∙ c.loop-byte.invariant.nodes;
-      text = halfway_more _ _ _ _ _ _ _ _ (ap (λ b. b.now) c.loop-byte.invariant.input) c.loop-byte.invariant.text here.0
+      text = so_far_more _ _ _ _ _ _ _ _ (ap (λ b. b.now) c.loop-byte.invariant.input) c.loop-byte.invariant.text here.0
           (λ e. c.if-byte-eq34.false (sym here.1 ∙ e)) c.in_ok-read_piece.ensures.text;
     }

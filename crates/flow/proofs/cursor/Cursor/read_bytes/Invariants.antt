@@ -1,5 +1,5 @@
 use Rattle.std.proofs.Common.{◌≡◌, ◌-◌, ◌≤◌, length}
-use Rattle.flow.proofs.Pieces.{Halfway}
+use Rattle.flow.proofs.Pieces.{InsideSoFar}
 use Rattle.flow.proofs.cursor.Cursor.read_bytes.Given as goal
 
 -- what was written and what the rest will be are the string
@@ -8,7 +8,7 @@ invariant-loop-byte l = record {
   input : l.self.input ≡ l.initial.self.input;
   onward : l.initial.self.place ≤ l.self.place;
   nodes : l.arrays.nodes ≡ l.initial.arrays.nodes;
-  text : Halfway l.initial.self.input.now l.initial.self.place l.self.place l.initial.arrays.text.items l.arrays.text.items;
+  text : InsideSoFar l.initial.self.input.now l.initial.self.place l.self.place l.initial.arrays.text.items l.arrays.text.items;
 }
 
 abbrev pub decreases-loop-byte : goal.decreases-loop-byte
