@@ -1,5 +1,6 @@
 ghost use Rattle.std.specs.Prelude.{◌≡◌, ◌≢◌, MatchOption};
-ghost use Rattle.flow.specs.Content.{closing_of, node_of, opening_of};
+ghost use Rattle.tree_rule.specs.Kinds.{number_of};
+ghost use Rattle.flow.specs.Content.{closing_of, content_kind, node_of, opening_of};
 
 use tree::{Kind, RawNode};
 
@@ -45,43 +46,38 @@ pub(crate) enum Content {
 }
 
 impl Content {
+    fn kind(self) -> Kind
+        ensures { number_of result ≡ content_kind self }
+    {
+        match self {
+            Content::Null => Kind::Other,
+            Content::Boolean(_) => Kind::Boolean,
+            Content::Integer(_) => Kind::Integer,
+            Content::Text { .. } => Kind::String,
+            Content::Group(Group::List) => Kind::List,
+            Content::Group(Group::Map) => Kind::Map,
+        }
+    }
+
     /// The node that ends there.
     pub(crate) fn node(self, end: u32) -> RawNode
         ensures { result ≡ node_of self end }
     {
-        let empty = RawNode {
-            kind: u32::from(Kind::Other),
-            end,
-            place: 0,
-            length: 0,
-            number: 0,
+        let number = match self {
+            Content::Boolean(value) => i64::from(value),
+            Content::Integer(number) => number,
+            _ => 0,
         };
-        match self {
-            Content::Null => empty,
-            Content::Boolean(value) => RawNode {
-                kind: u32::from(Kind::Boolean),
-                number: i64::from(value),
-                ..empty
-            },
-            Content::Integer(number) => RawNode {
-                kind: u32::from(Kind::Integer),
-                number,
-                ..empty
-            },
-            Content::Text { place, length } => RawNode {
-                kind: u32::from(Kind::String),
-                place,
-                length,
-                ..empty
-            },
-            Content::Group(Group::List) => RawNode {
-                kind: u32::from(Kind::List),
-                ..empty
-            },
-            Content::Group(Group::Map) => RawNode {
-                kind: u32::from(Kind::Map),
-                ..empty
-            },
+        let (place, length) = match self {
+            Content::Text { place, length } => (place, length),
+            _ => (0, 0),
+        };
+        RawNode {
+            kind: u32::from(self.kind()),
+            end,
+            place,
+            length,
+            number,
         }
     }
 }
