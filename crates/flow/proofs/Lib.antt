@@ -1,7 +1,7 @@
-pub mod Moves
+pub mod Blanks
+pub mod Groups
 pub mod Numbers
-pub mod Opens
 pub mod Pieces
 pub mod Pushed
-pub mod Steps
+pub mod Reading
 pub mod Words

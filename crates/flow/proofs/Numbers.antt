@@ -1,58 +1,64 @@
 -- What an integer's bytes parse to is what the flow form says.
-use Rattle.std.proofs.Common.{◌≡◌, ℕ, ◌+◌, ◌-◌, ◌<◌, ◌≤◌, true, List, ◌∷◌, ◌++◌, length, get_or, take, drop, ℤ, pos, neg_ℤ, Ok, Result, sym, refl, ap, ◌∙◌, subst, ⊎_elim, arith, to_z-of_z, w64, SFits, to_z, of_z, rules}
+use Rattle.std.proofs.Common.{◌≡◌, ℕ, ◌+◌, ◌<◌, ◌≤◌, true, List, ◌∷◌, ◌++◌, length, get_or, take, drop, [], ℤ, pos, neg_ℤ, IfSome, Ok, Err, Result, sym, refl, ap, ◌∙◌, subst, ⊎_elim, arith, to_z-of_z, w64, SFits, to_z, of_z, zero, suc, ◌^◌, lit<, rules}
+use Rattle.std.specs.Result.{result_ok}
 use Rattle.std.specs.Str.Parse.{ParsesSigned}
 use Rattle.std.specs.Str.{all_ascii_digits}
-use Rattle.std.proofs.lemmas.List.{drop_more, drop-drop, take-append-drop, drop-append-le, get_or-take, length-take-le, length-drop}
+use Rattle.std.proofs.lemmas.List.{drop-drop, take-append-drop}
 use Rattle.std.proofs.lemmas.Str.Parse.{IsNumeralModel, numerals_by_fold, parse_signed_minus, parse_signed_plain}
 use Rattle.std.proofs.lemmas.Result.{OkIff-at_ok}
 use Rattle.std.proofs.lemmas.Bool.{cases_eq}
 use Rattle.flow.specs.Scalars.{decimal, Integer, plain, minus}
 
--- what was parsed is what its bits say
-pub number_kept : {E : Type 0} (bs : List ℕ) (r : Result ℤ E) (z : ℤ) → ParsesSigned w64 10 bs r → r ≡ Ok z → to_z w64 (of_z w64 z) ≡ z
-number_kept bs r z p e = let q = OkIff-at_ok r _ _ z p e in to_z-of_z (subst (λ (y : ℤ). SFits w64 y) (sym q.1) q.0.1)
+small : (n : ℕ) → n ≤ 2 ^ 63 → SFits w64 (neg_ℤ (pos n))
+small zero h = record { sfits = lit< tt }
+small (suc n) h = record { sfits = omega (arith, h) }
+
+-- an integer is what its bits say
+pub number_kept : {bs rest : List ℕ} {z : ℤ} → Integer bs rest z → to_z w64 (of_z w64 z) ≡ z
+number_kept (plain d h) = to_z-of_z {w = w64} record { sfits = h }
+number_kept (minus {n = n} d h) = to_z-of_z {w = w64} (small n h)
 
 own : IsNumeralModel (λ ds. all_ascii_digits ds ≡ true) (decimal 0)
 own = numerals_by_fold _ (search rules) decimal (search rules)
 
-abbrev part : ℕ → ℕ → List ℕ → List ℕ
-part place end input = take (end - place) (drop place input)
+as_plain : {E : Type 0} (bs rest : List ℕ) (r : Result ℤ E) (z : ℤ) → ParsesSigned w64 10 bs r → r ≡ Ok z →
+    (get_or bs 0 0 ≡ 43 → ⊥) → (get_or bs 0 0 ≡ 45 → ⊥) → Integer (bs ++ rest) rest z
+as_plain bs rest r z p e n m =
+    let q = OkIff-at_ok r _ _ z (parse_signed_plain own w64 bs r p n m) e in
+    subst (λ (y : ℤ). Integer (bs ++ rest) rest y) (sym q.1)
+    (plain record { digits = bs; whole = refl; all = q.0.0; some = q.0.1; number = refl } q.0.2)
 
-part_whole : (input : List ℕ) (place end : ℕ) → place ≤ end → drop place input ≡ part place end input ++ drop end input
-part_whole input place end h =
-    sym (take-append-drop (end - place) (drop place input))
-    ∙ ap (λ xs. part place end input ++ xs) (drop-drop (end - place) place input ∙ ap (λ n. drop n input) (omega (arith, h)))
+as_minus : {E : Type 0} (bs rest : List ℕ) (r : Result ℤ E) (z : ℤ) → ParsesSigned w64 10 bs r → r ≡ Ok z → get_or bs 0 0 ≡ 45 →
+    Integer (bs ++ rest) rest z
+as_minus [] rest r z p e m = absurd (omega (arith, m))
+as_minus (b ∷ bs) rest r z p e m =
+    let q = OkIff-at_ok r _ _ z (parse_signed_minus own w64 (b ∷ bs) r p m) e in
+    subst (λ (y : ℤ). Integer (b ∷ (bs ++ rest)) rest y) (sym q.1)
+    (subst (λ (d : ℕ). Integer (d ∷ (bs ++ rest)) rest (neg_ℤ (pos (decimal 0 bs)))) (sym m)
+    (minus record { digits = bs; whole = refl; all = q.0.0; some = q.0.1; number = refl } q.0.2))
 
-part_long : (input : List ℕ) (place end : ℕ) → place ≤ end → end ≤ length input → length (part place end input) ≡ end - place
-part_long input place end h g = length-take-le (end - place) (drop place input) (omega (arith, h, g, length-drop place input))
+pub integer_read : {E : Type 0} (bs rest : List ℕ) (r : Result ℤ E) (z : ℤ) → ParsesSigned w64 10 bs r → r ≡ Ok z →
+    (get_or bs 0 0 ≡ 43 → ⊥) → Integer (bs ++ rest) rest z
+integer_read bs rest r z p e n =
+    ⊎_elim (λ m. as_minus bs rest r z p e m) (λ m. as_plain bs rest r z p e n m) (cases_eq (get_or bs 0 0) 45)
 
-part_front : (input : List ℕ) (place end : ℕ) → place < end → end ≤ length input → get_or (part place end input) 0 0 ≡ get_or input place 0
-part_front input place end h g =
-    get_or-take (end - place) (drop place input) 0 0 (omega (arith, h)) ∙ ap (λ bs. get_or bs 0 0) (drop_more input place 0 (omega (arith, h, g)))
+long : {E : Type 0} (bs : List ℕ) (r : Result ℤ E) (z : ℤ) → ParsesSigned w64 10 bs r → r ≡ Ok z → (get_or bs 0 0 ≡ 43 → ⊥) → 0 < length bs
+long [] r z p e n = absurd (omega (arith, (OkIff-at_ok r _ _ z (parse_signed_plain own w64 [] r p n (λ m. omega (arith, m))) e).0.1))
+long (b ∷ bs) r z p e n = omega arith
 
-as_plain : {E : Type 0} (input : List ℕ) (place end : ℕ) (r : Result ℤ E) (z : ℤ) → place < end → end ≤ length input →
-    ParsesSigned w64 10 (part place end input) r → r ≡ Ok z → (get_or input place 0 ≡ 43 → ⊥) → (get_or input place 0 ≡ 45 → ⊥) →
-    Integer (drop place input) (drop end input) z
-as_plain input place end r z h g p e n m =
-    let front = part_front input place end h g in
-    let q = OkIff-at_ok r _ _ z (parse_signed_plain own w64 (part place end input) r p (λ f. n (sym front ∙ f)) (λ f. m (sym front ∙ f))) e in
-    subst (λ (y : ℤ). Integer (drop place input) (drop end input) y) (sym q.1)
-    (plain record { digits = part place end input; whole = part_whole input place end (omega (arith, h)); all = q.0.0; some = q.0.1; number = refl } q.0.2)
+pub parsed : {E : Type 0} (bs : List ℕ) (r : Result ℤ E) → ParsesSigned w64 10 bs r → (get_or bs 0 0 ≡ 43 → ⊥) →
+    IfSome (result_ok r) (λ z. (0 < length bs) × ((rest : List ℕ) → Integer (bs ++ rest) rest z))
+parsed {E = E} bs (Ok z) p n = (long {E = E} bs (Ok z) z p refl n, λ rest. integer_read {E = E} bs rest (Ok z) z p refl n)
+parsed bs (Err e) p n = tt
 
-as_minus : {E : Type 0} (input : List ℕ) (place end : ℕ) (r : Result ℤ E) (z : ℤ) → place < end → end ≤ length input →
-    ParsesSigned w64 10 (part place end input) r → r ≡ Ok z → get_or input place 0 ≡ 45 →
-    Integer (drop place input) (drop end input) z
-as_minus input place end r z h g p e m =
-    let q = OkIff-at_ok r _ _ z (parse_signed_minus own w64 (part place end input) r p (part_front input place end h g ∙ m)) e in
-    let here = drop_more input place 0 (omega (arith, h, g)) in
-    let all : drop (place + 1) input ≡ drop 1 (part place end input) ++ drop end input =
-    sym (ap (drop 1) here) ∙ ap (drop 1) (part_whole input place end (omega (arith, h)))
-    ∙ drop-append-le 1 (part place end input) (drop end input) (omega (arith, h, part_long input place end (omega (arith, h)) g)) in
-    subst (λ (y : ℤ). Integer (drop place input) (drop end input) y) (sym q.1)
-    (subst (λ (bs : List ℕ). Integer bs (drop end input) (neg_ℤ (pos (decimal 0 (drop 1 (part place end input)))))) (sym (here ∙ ap (λ b. b ∷ drop (place + 1) input) m))
-    (minus record { digits = drop 1 (part place end input); whole = all; all = q.0.0; some = q.0.1; number = refl } q.0.2))
+-- the integer that stands at a place
+pub integer_here : (input bs : List ℕ) (place end w : ℕ) (z : ℤ) → bs ≡ drop place input → end ≡ place + w → Integer (take w bs ++ drop w bs) (drop w bs) z →
+    Integer (drop place input) (drop end input) (to_z w64 (of_z w64 z))
+integer_here input bs place end w z same there i =
+    subst (λ (y : ℤ). Integer (drop place input) (drop end input) y) (sym (number_kept i))
+    (subst (λ (xs : List ℕ). Integer (drop place input) xs z) (ap (drop w) same ∙ drop-drop w place input ∙ ap (λ n. drop n input) (sym there))
+    (subst (λ (xs : List ℕ). Integer xs (drop w bs) z) (take-append-drop w bs ∙ same) i))
 
-pub integer_read : {E : Type 0} (input : List ℕ) (place end : ℕ) (r : Result ℤ E) (z : ℤ) → place < end → end ≤ length input →
-    ParsesSigned w64 10 (take (end - place) (drop place input)) r → r ≡ Ok z → (get_or input place 0 ≡ 43 → ⊥) → Integer (drop place input) (drop end input) z
-integer_read input place end r z h g p e n =
-    ⊎_elim (λ m. as_minus input place end r z h g p e m) (λ m. as_plain input place end r z h g p e n m) (cases_eq (get_or input place 0) 45)
+pub wide : (w : ℕ) (bs : List ℕ) → 0 < length (take w bs) → 0 < w
+wide zero bs h = h
+wide (suc w) bs h = omega arith

@@ -1,18 +1,14 @@
--- A node that was written, by what the flow form calls it.
-use Rattle.std.proofs.Common.{◌≡◌, ℕ, ◌+◌, List, [], ◌∷◌, ◌++◌, length, ℤ, Ok, Result, ap, ◌∙◌, MatchResult}
-use Rattle.std.proofs.lemmas.Result.{MatchResult-at_ok}
+-- A node that was written for what was read.
+use Rattle.std.proofs.Common.{◌≡◌, ℕ, ◌+◌, ◌<◌, List, [], ◌∷◌, ◌++◌, length, drop, sym, ◌∙◌, arith}
+use Rattle.std.proofs.lemmas.List.{append-nil}
 use Rattle.tree_rule.specs.declared.node.RawNode.{RawNode}
-use Rattle.tree_rule.specs.Nodes.{raw}
-use Rattle.flow.specs.declared.misread.Reason.{Reason}
-use Rattle.flow.specs.Places.{NoRoom}
+use Rattle.flow.specs.Places.{Read}
 
-pub pushed_node : (before mid after : List RawNode) (len k p q l m : ℕ) (z y : ℤ) (r : Result (Unit {0}) Reason) → r ≡ Ok tt →
-    mid ≡ before → len ≡ length mid → p ≡ q → l ≡ m → z ≡ y →
-    MatchResult r (λ _. after ≡ mid ++ raw k (len + 1) p l z ∷ []) (λ e. NoRoom e) → after ≡ before ++ raw k (length before + 1) q m y ∷ []
-pushed_node before mid after len k p q l m z y r e same long place size number h =
-    MatchResult-at_ok (λ _. after ≡ mid ++ raw k (len + 1) p l z ∷ []) (λ e. NoRoom e) tt e h
-    ∙ ap (λ xs. xs ++ raw k (len + 1) p l z ∷ []) same
-    ∙ ap (λ n. before ++ raw k (n + 1) p l z ∷ []) (long ∙ ap length same)
-    ∙ ap (λ n. before ++ raw k (length before + 1) n l z ∷ []) place
-    ∙ ap (λ n. before ++ raw k (length before + 1) q n z ∷ []) size
-    ∙ ap (λ x. before ++ raw k (length before + 1) q m x ∷ []) number
+pub read_leaf : (K : ℕ → ℕ → List ℕ → List ℕ → List RawNode → List ℕ → Type 0) (input : List ℕ) (place end : ℕ) (ns ms : List RawNode) (text texts : List ℕ)
+    (x : RawNode) → K (length ns) (length text) (drop place input) (drop end input) (x ∷ []) [] → ms ≡ ns ++ x ∷ [] → texts ≡ text →
+    Read K input place end ns ms text texts
+read_leaf K input place end ns ms text texts x k e f =
+    record { added = x ∷ []; more = []; is = k; pushed = e; written = f ∙ sym (append-nil text) }
+
+pub later : (place end w : ℕ) → end ≡ place + w → 0 < w → place < end
+later place end w e h = omega (arith, e, h)

@@ -1,5 +1,5 @@
 -- Places in a document.
-use Rattle.std.specs.Prelude.{◌≡◌, ℕ, ◌<◌, ◌≤◌, ◌⊎◌, List, [], ◌++◌, length, drop, Some, None, Ok, Err, Option, Result, MatchResult, ◌≢◌, slice_index}
+use Rattle.std.specs.Prelude.{◌≡◌, ℕ, ◌+◌, ◌<◌, ◌≤◌, ◌⊎◌, List, [], ◌++◌, length, drop, Some, None, Ok, Err, Option, Result, ◌≢◌, slice_index}
 use Rattle.tree_rule.specs.declared.node.RawNode.{RawNode}
 use Rattle.std.specs.Int.{IsInRange}
 use Rattle.flow.specs.Scalars.{piece, Wordless}
@@ -32,10 +32,6 @@ Complaint NoMemory bs = Unit {0}
 abbrev pub Told : List ℕ → Misread → Type 0
 Told input m = (m.place ≤ length input) × Complaint m.reason (drop m.place input)
 
--- what was read ends behind the place, within the document; what could not be read is told of within it
-abbrev pub Onward : ℕ → ℕ → Result ℕ Misread → Type 0
-Onward place long r = MatchResult r (λ p. (place < p) × (p ≤ long)) (λ m. m.place ≤ long)
-
 -- there was no room for what was read
 abbrev pub NoRoom : Reason → Type 0
 NoRoom e = ((e ≡ TooMuchText) ⊎ (e ≡ TooManyNodes)) ⊎ (e ≡ NoMemory)
@@ -53,3 +49,11 @@ pub record Read (K : ℕ → ℕ → List ℕ → List ℕ → List RawNode → 
   pub is : K (length ns) (length text) (drop place input) (drop end input) added more
   pub pushed : ms ≡ ns ++ added
   pub written : texts ≡ text ++ more
+
+-- from this place of the input to that one stands a piece of a string, and its bytes were added
+pub record ReadPiece (input : List ℕ) (place end : ℕ) (text texts : List ℕ) : Type 0 where
+  pub these : List ℕ
+  pub width : ℕ
+  pub is : piece (drop place input) ≡ Some (these, width)
+  pub there : end ≡ place + width
+  pub written : texts ≡ text ++ these

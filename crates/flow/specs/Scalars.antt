@@ -1,7 +1,7 @@
 -- The flow form from below: blanks, integers, strings and the three words.
 -- A relation on `bytes` and `rest` says that a thing stands at the front of `bytes`, and that `rest` is what follows it.
-use Rattle.std.specs.Prelude.{◌≡◌, ℕ, ◌+◌, ◌-◌, ◌*◌, ◌^◌, ◌<◌, ◌≤◌, Bool, true, false, cond, ◌||◌, List, [], ◌∷◌, ◌++◌, length, take, drop, ℤ, pos, neg_ℤ, Some, None, codes, Option, ◌==◌, ◌≢◌, nat_lt, slice_index}
-use Rattle.std.proofs.Math.Utf8.{encode, scalar}
+use Rattle.std.specs.Prelude.{◌≡◌, ℕ, ◌+◌, ◌-◌, ◌*◌, ◌^◌, ◌<◌, ◌≤◌, Bool, true, false, cond, ◌||◌, List, [], ◌∷◌, ◌++◌, length, take, drop, ℤ, pos, neg_ℤ, Some, None, codes, encode_utf8, Option, ◌==◌, ◌≢◌, nat_lt, slice_index}
+use Rattle.std.proofs.Math.Utf8.{scalar}
 use Rattle.std.specs.Str.{all_ascii_digits}
 
 -- space, tab, carriage return, line feed
@@ -79,7 +79,7 @@ abbrev pub character : List ℕ → Option (ℕ × ℕ)
 character bs = character_from bs (code_unit bs)
 
 abbrev pub escape_from : Option (ℕ × ℕ) → Option ℕ → Option (List ℕ × ℕ)
-escape_from (Some p) b = Some (encode p.0, p.1)
+escape_from (Some p) b = Some (encode_utf8 p.0, p.1)
 escape_from None None = None
 escape_from None (Some b) = Some (b ∷ [], 2)
 

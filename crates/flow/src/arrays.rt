@@ -1,15 +1,17 @@
-ghost use Rattle.std.specs.Prelude.{◌≡◌, ◌+◌, ◌≤◌, [], ◌∷◌, ◌++◌, vec_len, MatchResult};
+ghost use Rattle.std.specs.Prelude.{◌≡◌, ◌+◌, ◌≤◌, [], ◌∷◌, ◌++◌, length, vec_len, IfOk, MatchResult};
 ghost use Rattle.tree.specs.Checked.{Checked};
 ghost use Rattle.tree.specs.Meaning.{Means};
-ghost use Rattle.tree_rule.specs.Nodes.{raw};
+ghost use Rattle.flow.specs.Content.{node_of};
 ghost use Rattle.flow.specs.Places.{NoRoom};
 ghost use Rattle.flow.specs.Sofar.{ending_here};
 
+use crate::content::Content;
 use crate::misread::Reason;
 use std::alloc::Global;
 use tree::{MAX_NODES, MAX_TEXT, RawNode, Refusal, Tree, Workspace};
 
 /// The nodes and the text that a document is read into.
+// Two vectors side by side, since the rule takes nodes and text so, also from a reader in C.
 #[derive(Drop)]
 pub struct Arrays {
     pub(crate) nodes: Vec<RawNode>,
@@ -29,38 +31,25 @@ impl Arrays {
     }
 
     /// The tree that was read, if it is one.
-    pub fn tree<'a>(&'a self, work: &mut Workspace) -> (Tree<'a>, Option<Refusal>)
-        ensures answer { Checked self.now.nodes.items self.now.text.items result.0 result.1 }
-        ensures meaning { Means result.0.nodes.now result.0.text.now }
+    pub fn tree<'a>(&'a self, work: &mut Workspace) -> Result<Tree<'a>, Refusal>
+        ensures answer { Checked self.now.nodes.items self.now.text.items result }
+        ensures meaning { IfOk result (λ tree. Means tree.nodes.now tree.text.now) }
     {
         tree::check(self.nodes.as_slice(), self.text.as_slice(), work)
     }
 
-    /// Writes a node that holds nothing yet.
-    pub(crate) fn push_node(
-        &mut self,
-        kind: u32,
-        place: u32,
-        length: u32,
-        number: i64,
-    ) -> Result<(), Reason>
+    /// Writes a node that ends behind itself.
+    pub(crate) fn push(&mut self, content: Content) -> Result<(), Reason>
         ensures text { self.new.text ≡ self.old.text }
-        ensures nodes { MatchResult result (λ _. self.new.nodes.items ≡ self.old.nodes.items ++ raw kind (vec_len self.old.nodes + 1) place length number ∷ []) (λ e. NoRoom e) }
+        ensures nodes { MatchResult result (λ _. self.new.nodes.items ≡ self.old.nodes.items ++ node_of content (length self.old.nodes.items + 1) ∷ []) (λ e. NoRoom e) }
     {
         let end = self.nodes.len() + 1;
         if end > MAX_NODES {
             return Err(Reason::TooManyNodes);
         }
-        match self.nodes.push(RawNode {
-            kind,
-            end: end as u32,
-            place,
-            length,
-            number,
-        }) {
-            Ok(()) => Ok(()),
-            Err(_) => Err(Reason::NoMemory),
-        }
+        self.nodes
+            .push(content.node(end as u32))
+            .map_err(|_| Reason::NoMemory)
     }
 
     /// All nodes behind this one are what it holds.
@@ -69,8 +58,8 @@ impl Arrays {
         ensures nodes { self.new.nodes.items ≡ ending_here node self.old.nodes.items }
     {
         let end = self.nodes.len() as u32;
-        if node < self.nodes.len() {
-            self.nodes[node].end = end;
+        if let Some(node) = self.nodes.get_mut(node) {
+            node.end = end;
         }
     }
 
@@ -82,9 +71,8 @@ impl Arrays {
         if bytes.len() > MAX_TEXT - self.text.len() {
             return Err(Reason::TooMuchText);
         }
-        match self.text.extend_from_slice(bytes) {
-            Ok(()) => Ok(()),
-            Err(_) => Err(Reason::NoMemory),
-        }
+        self.text
+            .extend_from_slice(bytes)
+            .map_err(|_| Reason::NoMemory)
     }
 }

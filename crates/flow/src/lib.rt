@@ -3,6 +3,8 @@
 #![tactic(auto)]
 
 mod arrays;
+mod content;
+mod cursor;
 mod misread;
 mod reader;
 mod scalars;

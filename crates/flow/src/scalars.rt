@@ -1,63 +1,48 @@
-ghost use Rattle.std.specs.Prelude.{◌≡◌, ℕ, ◌+◌, ◌<◌, ◌≤◌, ◌⊎◌, ◌≢◌, List, ◌++◌, length, drop, IfSome, IfOk, IfErr, Ok, Err, MatchResult, slice_index};
-ghost use Rattle.std.proofs.Math.Utf8.{encode};
-ghost use Rattle.flow.specs.Places.{NoRoom, Onward, Read, Told, Wrote};
-ghost use Rattle.flow.specs.Scalars.{character as character_of, code_unit, escape, escaped, hex_value, pair_of, piece, Inside};
+ghost use Rattle.std.specs.Prelude.{◌≡◌, ◌==◌, encode_utf8, cond, take, ℕ, ◌+◌, ◌-◌, ◌*◌, ◌^◌, ◌<◌, ◌≤◌, ◌⊎◌, ◌≢◌, List, ◌∷◌, [], ◌++◌, length, drop, vec_len, IfSome, IfOk, IfErr, OnOk, Ok, Err, MatchResult, slice_index};
+ghost use Rattle.flow.specs.Content.{node_of};
+ghost use Rattle.flow.specs.Places.{NoRoom, ReadPiece, Told, Wrote};
+ghost use Rattle.flow.specs.Reads.{Reads};
+ghost use Rattle.flow.specs.Scalars.{character as character_of, code_unit, escape, escaped, hex_value, pair_of, piece, Inside, Integer};
 ghost use Rattle.flow.specs.Flow.{Key};
 ghost use Rattle.std.specs.List.{prefix_len};
 ghost use Rattle.std.specs.Char.{is_ascii_digit};
 ghost use Rattle.std.specs.Int.{IsInRange};
 
 use crate::arrays::Arrays;
+use crate::content::Content;
+use crate::cursor::Cursor;
 use crate::misread::{Misread, Reason};
 
-/// The place of a failure to write.
-pub(crate) fn placed<T: Drop>(place: usize, read: Result<T, Reason>) -> Result<T, Misread>
-    ensures { MatchResult result (λ v. read ≡ Ok v) (λ m. (m.place ≡ place) × (read ≡ Err m.reason)) }
+/// How many digits stand at the front.
+// Beside `blanks` no twin to be joined: one function over both would be longer than each chain, and ask of its closure that it may be called.
+fn digits(bytes: &[u8]) -> usize
+    ensures range { result ≤ length bytes.now }
+    ensures is { result ≡ prefix_len is_ascii_digit bytes.now }
 {
-    match read {
-        Ok(value) => Ok(value),
-        Err(reason) => Err(Misread { place, reason }),
+    bytes
+        .iter()
+        .take_while(|byte| byte.is_ascii_digit())
+        .count()
+}
+
+/// How many bytes at the front are a minus sign and digits.
+fn integer_width(bytes: &[u8]) -> usize
+    ensures range { result ≤ length bytes.now }
+    ensures is { result ≡ cond (slice_index bytes.now 0 == 45) (1 + prefix_len is_ascii_digit (drop 1 bytes.now)) (prefix_len is_ascii_digit bytes.now) }
+    ensures no_plus { slice_index (take result bytes.now) 0 ≢ 43 }
+{
+    match bytes {
+        [b'-', rest @ ..] => 1 + digits(rest),
+        _ => digits(bytes),
     }
 }
 
-/// The place behind the digits that stand here.
-fn behind_digits(input: &[u8], place: usize) -> usize
-    requires { place ≤ length input.now }
-    ensures range { (place ≤ result) × (result ≤ length input.now) }
-    ensures is { result ≡ place + prefix_len is_ascii_digit (drop place input.now) }
-{
-    let mut end = place;
-    while end < input.len() && input[end].is_ascii_digit() {
-        end += 1;
-    }
-    end
-}
-
-/// Reads an integer, and gives the place behind it.
-pub(crate) fn read_integer(
-    input: &[u8],
-    place: usize,
-    arrays: &mut Arrays,
-) -> Result<usize, Misread>
-    requires { place < length input.now }
-    ensures range { Onward place (length input.now) result }
-    ensures told { (slice_index input.now place ≡ 45) ⊎ IsInRange 48 57 (slice_index input.now place) → IfErr result (λ m. Told input.now m) }
+/// The integer of 64 bits that these bytes are.
+fn integer(bytes: &[u8]) -> Option<i64>
     // `parse` takes a plus sign too, which the flow form does not know
-    ensures reads { slice_index input.now place ≢ 43 → IfOk result (λ end. Read Key input.now place end arrays.old.nodes.items arrays.new.nodes.items arrays.old.text.items arrays.new.text.items) }
+    ensures { slice_index bytes.now 0 ≢ 43 → IfSome result (λ z. (0 < length bytes.now) × ((rest : List ℕ) → Integer (bytes.now ++ rest) rest z)) }
 {
-    let end = behind_digits(input, place + 1);
-    let bad = Misread {
-        place,
-        reason: Reason::BadNumber,
-    };
-    let Ok(digits) = std::str::from_utf8(&input[place..end]) else {
-        return Err(bad);
-    };
-    let Ok(number) = digits.parse::<i64>() else {
-        return Err(bad);
-    };
-    placed(place, arrays.push_node(2, 0, 0, number))?;
-    Ok(end)
+    std::str::from_utf8(bytes).ok()?.parse().ok()
 }
 
 /// The byte that stands for an escape of two bytes, by its second.
@@ -67,10 +52,10 @@ fn simple_escape(byte: u8) -> Option<u8>
     match byte {
         b'"' | b'\\' | b'/' => Some(byte),
         b'b' => Some(8),
-        b't' => Some(9),
-        b'n' => Some(10),
+        b't' => Some(b'\t'),
+        b'n' => Some(b'\n'),
         b'f' => Some(12),
-        b'r' => Some(13),
+        b'r' => Some(b'\r'),
         _ => None,
     }
 }
@@ -80,20 +65,7 @@ fn hex_digit(byte: u8) -> Option<u32>
     ensures is { result ≡ hex_value byte }
     ensures range { IfSome result (λ d. d < 16) }
 {
-    match byte {
-        b'0'..=b'9' => Some(byte as u32 - 48),
-        b'A'..=b'F' => Some(byte as u32 - 55),
-        b'a'..=b'f' => Some(byte as u32 - 87),
-        _ => None,
-    }
-}
-
-/// What follows the first bytes.
-pub(crate) fn behind(bytes: &[u8], width: usize) -> &[u8]
-    requires { width ≤ length bytes.now }
-    ensures { result.now ≡ drop width bytes.now }
-{
-    &bytes[width..]
+    char::from(byte).to_digit(16)
 }
 
 /// The number of a `\uXXXX` at the front.
@@ -130,21 +102,21 @@ fn unicode_escape(bytes: &[u8]) -> Option<(char, usize)>
     if let Some(character) = char::from_u32(first) {
         return Some((character, 6));
     }
-    let second = code_unit(behind(bytes, 6))?;
+    let second = code_unit(&bytes[6..])?;
     Some((pair(first, second)?, 12))
 }
 
 /// Writes a character in UTF-8.
 fn push_char(character: char, arrays: &mut Arrays) -> Result<(), Reason>
     ensures nodes { arrays.new.nodes ≡ arrays.old.nodes }
-    ensures text { MatchResult result (λ _. arrays.new.text.items ≡ arrays.old.text.items ++ encode character) (λ e. NoRoom e) }
+    ensures text { MatchResult result (λ _. arrays.new.text.items ≡ arrays.old.text.items ++ encode_utf8 character) (λ e. NoRoom e) }
 {
     let mut utf8 = [0; 4];
     arrays.push_text(character.encode_utf8(&mut utf8).as_bytes())
 }
 
-/// Reads the escape at the front, and gives its width.
-fn read_escape(bytes: &[u8], arrays: &mut Arrays) -> Result<usize, Reason>
+/// Writes what the escape at the front stands for, and gives its width.
+fn push_escape(bytes: &[u8], arrays: &mut Arrays) -> Result<usize, Reason>
     ensures nodes { arrays.new.nodes ≡ arrays.old.nodes }
     ensures text { Wrote (escape bytes.now) result arrays.old.text.items arrays.new.text.items }
     ensures range { IfOk result (λ w. (0 < w) × (w ≤ length bytes.now)) }
@@ -153,25 +125,23 @@ fn read_escape(bytes: &[u8], arrays: &mut Arrays) -> Result<usize, Reason>
         push_char(character, arrays)?;
         return Ok(width);
     }
-    if bytes.len() < 2 {
-        return Err(Reason::BadEscape);
-    }
-    let Some(byte) = simple_escape(bytes[1]) else {
-        return Err(Reason::BadEscape);
-    };
+    let byte = bytes
+        .get(1)
+        .and_then(|byte| simple_escape(*byte))
+        .ok_or(Reason::BadEscape)?;
     arrays.push_text(&[byte])?;
     Ok(2)
 }
 
-/// Reads the byte of a string at the front, or the escape, and gives its width.
-fn read_piece(bytes: &[u8], arrays: &mut Arrays) -> Result<usize, Reason>
+/// Writes the byte of a string at the front, or the escape, and gives its width.
+fn push_piece(bytes: &[u8], arrays: &mut Arrays) -> Result<usize, Reason>
     requires { 0 < length bytes.now }
     ensures nodes { arrays.new.nodes ≡ arrays.old.nodes }
     ensures text { Wrote (piece bytes.now) result arrays.old.text.items arrays.new.text.items }
     ensures range { IfOk result (λ w. (0 < w) × (w ≤ length bytes.now)) }
 {
     match bytes[0] {
-        b'\\' => read_escape(bytes, arrays),
+        b'\\' => push_escape(bytes, arrays),
         0..=31 => Err(Reason::Control),
         byte => {
             arrays.push_text(&[byte])?;
@@ -180,37 +150,85 @@ fn read_piece(bytes: &[u8], arrays: &mut Arrays) -> Result<usize, Reason>
     }
 }
 
-/// Reads the bytes of a string, and gives the place behind its closing quote.
-fn read_bytes(input: &[u8], from: usize, arrays: &mut Arrays) -> Result<usize, Misread>
-    requires { from ≤ length input.now }
-    ensures range { Onward from (length input.now) result }
-    ensures told { IfErr result (λ m. Told input.now m) }
-    ensures nodes { arrays.new.nodes ≡ arrays.old.nodes }
-    ensures text { IfOk result (λ end. (ts : List ℕ) × (Inside (drop from input.now) (drop end input.now) ts) × (arrays.new.text.items ≡ arrays.old.text.items ++ ts)) }
-{
-    let mut place = from;
-    while place < input.len() {
-        if input[place] == b'"' {
-            return Ok(place + 1);
-        }
-        place += placed(place, read_piece(behind(input, place), arrays))?;
+// The arrays are handed on beside the cursor, and are no part of it: what only moves the cursor leaves them alone, with no clause to say so.
+impl Cursor<'_> {
+    /// Writes a node for what stands here.
+    pub(crate) fn push(&self, content: Content, arrays: &mut Arrays) -> Result<(), Misread>
+        ensures text { arrays.new.text ≡ arrays.old.text }
+        ensures nodes { OnOk result (arrays.new.nodes.items ≡ arrays.old.nodes.items ++ node_of content (length arrays.old.nodes.items + 1) ∷ []) }
+        ensures place { IfErr result (λ m. m.place ≡ self.now.place) }
+        ensures refused { IfErr result (λ m. NoRoom m.reason) }
+    {
+        let place = self.place();
+        arrays
+            .push(content)
+            .map_err(|reason| Misread { place, reason })
     }
-    Err(Misread {
-        place,
-        reason: Reason::OpenString,
-    })
-}
 
-/// Reads the string whose opening quote stands here, and gives the place behind it.
-pub(crate) fn read_string(input: &[u8], place: usize, arrays: &mut Arrays) -> Result<usize, Misread>
-    requires { place < length input.now }
-    ensures range { Onward place (length input.now) result }
-    ensures told { IfErr result (λ m. Told input.now m) }
-    ensures reads { slice_index input.now place ≡ 34 → IfOk result (λ end. Read Key input.now place end arrays.old.nodes.items arrays.new.nodes.items arrays.old.text.items arrays.new.text.items) }
-{
-    let start = arrays.text.len();
-    let end = read_bytes(input, place + 1, arrays)?;
-    let length = arrays.text.len().saturating_sub(start);
-    placed(place, arrays.push_node(3, start as u32, length as u32, 0))?;
-    Ok(end)
+    /// Reads an integer.
+    pub(crate) fn read_integer(&mut self, arrays: &mut Arrays) -> Result<(), Misread>
+        ensures input { self.new.input ≡ self.old.input }
+        ensures place { IfErr result (λ m. m.place ≡ self.old.place) }
+        ensures told { (slice_index self.old.input.now self.old.place ≡ 45) ⊎ IsInRange 48 57 (slice_index self.old.input.now self.old.place) → IfErr result (λ m. Told self.old.input.now m) }
+        ensures reads { OnOk result (Reads Key self.old self.new arrays.old arrays.new) }
+    {
+        let rest = self.rest();
+        let width = integer_width(rest);
+        let number = integer(&rest[..width]).ok_or(self.misread(Reason::BadNumber))?;
+        self.push(Content::Integer(number), arrays)?;
+        self.skip(width);
+        Ok(())
+    }
+
+    /// Reads a byte of a string, or an escape.
+    fn read_piece(&mut self, arrays: &mut Arrays) -> Result<(), Misread>
+        requires { self.old.place < length self.old.input.now }
+        ensures input { self.new.input ≡ self.old.input }
+        ensures onward { OnOk result (self.old.place < self.new.place) }
+        ensures told { IfErr result (λ m. Told self.old.input.now m) }
+        ensures nodes { arrays.new.nodes ≡ arrays.old.nodes }
+        ensures text { OnOk result (ReadPiece self.old.input.now self.old.place self.new.place arrays.old.text.items arrays.new.text.items) }
+    {
+        let place = self.place();
+        let width = push_piece(self.rest(), arrays).map_err(|reason| Misread { place, reason })?;
+        self.skip(width);
+        Ok(())
+    }
+
+    /// Reads the bytes of a string, and its closing quote.
+    fn read_bytes(&mut self, arrays: &mut Arrays) -> Result<(), Misread>
+        ensures input { self.new.input ≡ self.old.input }
+        ensures onward { OnOk result (self.old.place < self.new.place) }
+        ensures told { IfErr result (λ m. Told self.old.input.now m) }
+        ensures nodes { arrays.new.nodes ≡ arrays.old.nodes }
+        ensures text { OnOk result ((ts : List ℕ) × (Inside (drop self.old.place self.old.input.now) (drop self.new.place self.old.input.now) ts) × (arrays.new.text.items ≡ arrays.old.text.items ++ ts)) }
+    {
+        while let Some(byte) = self.peek() {
+            if byte == b'"' {
+                self.skip(1);
+                return Ok(());
+            }
+            self.read_piece(arrays)?;
+        }
+        Err(self.misread(Reason::OpenString))
+    }
+
+    /// Reads the string whose opening quote stands here.
+    pub(crate) fn read_string(&mut self, arrays: &mut Arrays) -> Result<(), Misread>
+        requires { self.old.place < length self.old.input.now }
+        ensures input { self.new.input ≡ self.old.input }
+        ensures told { IfErr result (λ m. Told self.old.input.now m) }
+        ensures reads { slice_index self.old.input.now self.old.place ≡ 34 → OnOk result (Reads Key self.old self.new arrays.old arrays.new) }
+    {
+        let quote = *self;
+        let start = arrays.text.len();
+        self.skip(1);
+        self.read_bytes(arrays)?;
+        let length = arrays.text.len() - start;
+        let content = Content::Text {
+            place: start as u32,
+            length: length as u32,
+        };
+        quote.push(content, arrays)
+    }
 }

@@ -2,8 +2,6 @@
 use Rattle.std.specs.Prelude.{◌≡◌, ℕ, ◌-◌, ◌<◌, ◌≤◌, Bool, ◌&&◌, ◌||◌, List, [], ◌∷◌, ◌++◌, length, take, drop, codes, ◌==◌, slice_index}
 use Rattle.std.specs.List.{AllByRecursion}
 use Rattle.std.specs.Str.{bytes_eq}
-use Rattle.tree_rule.specs.declared.node.Kind.{Kind}
-use Rattle.tree_rule.specs.declared.node.Kind.TheVariants as kind
 
 abbrev pub is_line_feed : ℕ → Bool
 is_line_feed b = b == 10
@@ -15,14 +13,6 @@ is_line_start input p = p == 0 || slice_index input (p - 1) == 10
 -- a line that begins with `---` begins at this place
 abbrev pub is_mark : List ℕ → ℕ → Bool
 is_mark input p = is_line_start input p && bytes_eq (codes "---") (take 3 (drop p input))
-
-abbrev pub kind_word : Kind → List ℕ
-kind_word kind.Other = codes "other"
-kind_word kind.Boolean = codes "boolean"
-kind_word kind.Integer = codes "integer"
-kind_word kind.String = codes "string"
-kind_word kind.List = codes "list"
-kind_word kind.Map = codes "map"
 
 -- of the ends of the nodes around this one, the last are gone that lie before it
 pub record Forgot (node : ℕ) (before after : List ℕ) : Type 0 where

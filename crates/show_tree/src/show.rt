@@ -1,83 +1,49 @@
-ghost use Rattle.std.specs.Prelude.{◌≡◌, ◌≤◌, IfOk, vec_len};
-ghost use Rattle.show_tree.specs.Lines.{Deepened, Forgot, kind_word};
+ghost use Rattle.std.specs.Prelude.{◌<◌, ◌≤◌, ◌-◌, ℕ, IfOk, length, slice_index};
+ghost use Rattle.show_tree.specs.Lines.{Deepened};
 
 use tree::{Kind, Tree};
 
-/// Forgets the nodes that have ended before this one.
-fn forget_ended(ends: &mut Vec<usize>, node: usize)
-    ensures shorter { vec_len ends.new ≤ vec_len ends.old }
-    ensures forgot { Forgot node ends.old.items ends.new.items }
+/// How many of the first ends lie behind this node.
+fn around(ends: &[usize], node: usize) -> usize
+    ensures range { result ≤ length ends.now }
+    ensures ended { (k : ℕ) → result ≤ k → k < length ends.now → slice_index ends.now k ≤ node }
+    ensures last { 0 < result → node < slice_index ends.now (result - 1) }
 {
-    while !ends.is_empty() && ends[ends.len() - 1] <= node {
-        let _ = ends.pop();
-    }
+    ends.iter()
+        .rposition(|end| *end > node)
+        .map_or(0, |last| last + 1)
 }
 
 /// How many nodes lie around this one, which joins them for the nodes that follow.
 fn depth_of(ends: &mut Vec<usize>, node: usize, end: usize) -> anyhow::Result<usize>
     ensures { IfOk result (λ depth. Deepened node end depth ends.old.items ends.new.items) }
 {
-    forget_ended(ends, node);
-    let depth = ends.len();
+    let depth = around(ends, node);
+    ends.truncate(depth);
     ends.push(end)?;
     Ok(depth)
 }
 
-/// The name of a kind.
-fn kind_word(kind: Kind) -> &'static str
-    ensures { result.now ≡ kind_word kind }
-{
-    match kind {
-        Kind::Other => "other",
-        Kind::Boolean => "boolean",
-        Kind::Integer => "integer",
-        Kind::String => "string",
-        Kind::List => "list",
-        Kind::Map => "map",
-    }
-}
-
 /// Shows what a node holds itself.
-fn show_content(rt: &HostRuntime, tree: Tree<'_>, node: usize, kind: Kind) -> anyhow::Result<()> {
-    match kind {
-        Kind::Boolean => {
-            if let Ok(value) = tree.boolean(node) {
-                print!(rt; " {value}")?;
-            }
-        }
-        Kind::Integer => {
-            if let Ok(value) = tree.integer(node) {
-                print!(rt; " {value}")?;
-            }
-        }
-        Kind::String => {
-            if let Ok(bytes) = tree.text(node) {
-                if let Ok(text) = std::str::from_utf8(bytes) {
-                    print!(rt; " {text:?}")?;
-                }
-            }
-        }
+fn show_content(rt: &HostRuntime, tree: Tree<'_>, node: usize) -> anyhow::Result<()> {
+    match tree.kind(node)? {
+        Kind::Boolean => print!(rt; " {}", tree.boolean(node)?)?,
+        Kind::Integer => print!(rt; " {}", tree.integer(node)?)?,
+        Kind::String => print!(rt; " {:?}", std::str::from_utf8(tree.text(node)?)?)?,
         Kind::Other | Kind::List | Kind::Map => {}
     }
     Ok(())
 }
 
 /// Shows one node as a line.
-fn show_node(
-    rt: &HostRuntime,
-    tree: Tree<'_>,
-    node: usize,
-    end: usize,
-    depth: usize,
-) -> anyhow::Result<()> {
+fn show_node(rt: &HostRuntime, tree: Tree<'_>, node: usize, depth: usize) -> anyhow::Result<()> {
     for _ in 0..depth {
         print!(rt; "  ")?;
     }
-    if let Ok(kind) = tree.kind(node) {
-        let word = kind_word(kind);
-        print!(rt; "{node} {word} end {end}")?;
-        show_content(rt, tree, node, kind)?;
-    }
+    let kind = tree.kind(node)?;
+    let end = tree.end(node)?;
+    print!(rt; "{node} {kind} end {end}")?;
+    show_content(rt, tree, node)?;
     println!(rt; "")?;
     Ok(())
 }
@@ -85,11 +51,10 @@ fn show_node(
 /// Shows each node of a tree as a line, further to the right the deeper it lies.
 pub(crate) fn show_nodes(rt: &HostRuntime, tree: Tree<'_>) -> anyhow::Result<()> {
     let mut ends = Vec::new(rt.alloc());
+    // a tree is asked by the numbers of its nodes
     for node in 0..tree.len() {
-        if let Ok(end) = tree.end(node) {
-            let depth = depth_of(&mut ends, node, end)?;
-            show_node(rt, tree, node, end, depth)?;
-        }
+        let depth = depth_of(&mut ends, node, tree.end(node)?)?;
+        show_node(rt, tree, node, depth)?;
     }
     Ok(())
 }

@@ -1,13 +1,13 @@
 -- The children of a value, one after another.
-use Rattle.std.proofs.Common.{◌≡◌, ℕ, ◌+◌, ◌<◌, ◌≤◌, cond, ltb, List, [], ◌∷◌, ◌++◌, length, Some, None, sym, ap, ◌∙◌, subst, arith}
+use Rattle.std.proofs.Common.{◌≡◌, ℕ, ◌+◌, ◌<◌, cond, ltb, List, [], ◌∷◌, ◌++◌, length, Some, None, Option, Bool, true, false, refl, sym, ap, ◌∙◌, arith}
+use Rattle.std.specs.Bool.{then_some}
 use Rattle.std.proofs.lemmas.Bool.{cond-true, cond-false, lt-ltb, le-ltb}
 use Rattle.tree_rule.specs.declared.node.RawNode.{RawNode}
-use Rattle.tree_rule.specs.Nodes.{at, from, children}
+use Rattle.tree_rule.specs.Nodes.{at, from, children, Forward}
 use Rattle.tree_rule.specs.Rule.{Formed, Leaf}
 use Rattle.tree.specs.Questions.{held, front, item_numbers, entry_numbers}
 use Rattle.tree.specs.Values.{Value, Items, Entries, other, boolean, integer, string, list, map, no_item, item, no_entry, entry, Stands, Row, Pairs, number}
-use Rattle.tree_rule.proofs.Walks.{Forward, from_here, from_past}
-use Rattle.tree.proofs.Known.{leaf_known}
+use Rattle.tree_rule.proofs.Walks.{from_here, from_past}
 
 -- the nodes from c to e, each where the one before ends
 abbrev Chain : List RawNode → ℕ → ℕ → List ℕ → Type 0
@@ -55,6 +55,10 @@ pub held_children : (ns : List RawNode) (text : List ℕ) (i : ℕ) (v : Value) 
     Stands ns text i v → children ns i ≡ held v
 held_children ns text i v fw leaf s = chain_from ns (i + 1) (at ns i).end (held v) fw (held_chain ns text i v leaf s)
 
+then_cond : (b : Bool) (x : ℕ) → cond b (Some x) None ≡ then_some b x
+then_cond true x = refl
+then_cond false x = refl
+
 chain_front : (ns : List RawNode) (c e : ℕ) (ks : List ℕ) → Chain ns c e ks → front ks ≡ cond (ltb c e) (Some c) None
 chain_front ns c e [] s = sym (cond-false (ltb c e) (Some c) None (le-ltb c e (omega arith)))
 chain_front ns c e (k ∷ ks) s = ap Some s.0 ∙ sym (cond-true (ltb c e) (Some c) None (lt-ltb c e s.1))
@@ -71,44 +75,20 @@ chain_next ns c e (k ∷ ks) [] child after s p =
 chain_next ns c e (k ∷ ks) (b ∷ bs) child after s p =
     let q : ks ≡ bs ++ child ∷ after = cc in chain_next ns (at ns c).end e ks bs child after s.2 q
 
--- raw is node i of a tree, and its end decides whether it has a child
-pub first_some : (ns : List RawNode) (text : List ℕ) (i : ℕ) (raw : RawNode) → ∥ Formed ns text ∥₁ → i < length ns → raw ≡ at ns i →
-    i + 1 < raw.end → (v : Value) → Stands ns text i v → front (held v) ≡ Some (i + 1)
-first_some ns text i raw t h p l v s =
-    let q : i + 1 < (at ns i).end = subst (λ (n : RawNode). i + 1 < n.end) p l in
-    chain_front ns (i + 1) (at ns i).end (held v) (held_chain ns text i v (leaf_known ns text i t h) s)
-    ∙ cond-true (ltb (i + 1) (at ns i).end) (Some (i + 1)) None (lt-ltb (i + 1) (at ns i).end q)
+-- end is the end of node i, and decides whether it has a child
+pub first_answered : (ns : List RawNode) (text : List ℕ) (i end : ℕ) (o : Option ℕ) → Formed ns text → i < length ns →
+    end ≡ (at ns i).end → o ≡ then_some (ltb (i + 1) end) (i + 1) →
+    (v : Value) → Stands ns text i v → Some (front (held v)) ≡ Some o
+first_answered ns text i end o t h p q v s =
+    let f = chain_front ns (i + 1) (at ns i).end (held v) (held_chain ns text i v (t.nodes i h).leaf s) in
+    let g : o ≡ then_some (ltb (i + 1) (at ns i).end) (i + 1) = rw (← p) q in
+    ap Some (f ∙ then_cond _ _ ∙ sym g)
 
-pub first_none : (ns : List RawNode) (text : List ℕ) (i : ℕ) (raw : RawNode) → ∥ Formed ns text ∥₁ → i < length ns → raw ≡ at ns i →
-    raw.end ≤ i + 1 → (v : Value) → Stands ns text i v → front (held v) ≡ None
-first_none ns text i raw t h p l v s =
-    let q : (at ns i).end ≤ i + 1 = subst (λ (n : RawNode). n.end ≤ i + 1) p l in
-    chain_front ns (i + 1) (at ns i).end (held v) (held_chain ns text i v (leaf_known ns text i t h) s)
-    ∙ cond-false (ltb (i + 1) (at ns i).end) (Some (i + 1)) None (le-ltb (i + 1) (at ns i).end q)
-
-next_held : (ns : List RawNode) (text : List ℕ) (i child : ℕ) → ∥ Formed ns text ∥₁ → i < length ns →
-    (v : Value) (before after : List ℕ) → Stands ns text i v → held v ≡ before ++ child ∷ after →
-    front after ≡ cond (ltb (at ns child).end (at ns i).end) (Some (at ns child).end) None
-next_held ns text i child t h v before after s p =
-    chain_next ns (i + 1) (at ns i).end (held v) before child after (held_chain ns text i v (leaf_known ns text i t h) s) p
-
--- raw and kid are node i and its child, and their ends decide whether another child follows
-pub next_some : (ns : List RawNode) (text : List ℕ) (i child : ℕ) (raw kid : RawNode) → ∥ Formed ns text ∥₁ → i < length ns →
-    raw ≡ at ns i → kid ≡ at ns child → kid.end < raw.end →
-    (v : Value) (before after : List ℕ) → Stands ns text i v → held v ≡ before ++ child ∷ after → Some kid.end ≡ front after
-next_some ns text i child raw kid t h p q l v before after s e =
-    let a = ap (λ (n : RawNode). n.end) p in
-    let b = ap (λ (n : RawNode). n.end) q in
-    let m : (at ns child).end < (at ns i).end = omega arith in
-    let w = next_held ns text i child t h v before after s e in
-    ap Some b ∙ sym (w ∙ cond-true (ltb (at ns child).end (at ns i).end) (Some (at ns child).end) None (lt-ltb _ _ m))
-
-pub next_none : (ns : List RawNode) (text : List ℕ) (i child : ℕ) (raw kid : RawNode) → ∥ Formed ns text ∥₁ → i < length ns →
-    raw ≡ at ns i → kid ≡ at ns child → raw.end ≤ kid.end →
-    (v : Value) (before after : List ℕ) → Stands ns text i v → held v ≡ before ++ child ∷ after → None ≡ front after
-next_none ns text i child raw kid t h p q l v before after s e =
-    let a = ap (λ (n : RawNode). n.end) p in
-    let b = ap (λ (n : RawNode). n.end) q in
-    let m : (at ns i).end ≤ (at ns child).end = omega arith in
-    let w = next_held ns text i child t h v before after s e in
-    sym (w ∙ cond-false (ltb (at ns child).end (at ns i).end) (Some (at ns child).end) None (le-ltb _ _ m))
+-- end is the end of node i, and next that of its child; they decide whether another child follows
+pub next_answered : (ns : List RawNode) (text : List ℕ) (i child end next : ℕ) (o : Option ℕ) → Formed ns text → i < length ns →
+    end ≡ (at ns i).end → next ≡ (at ns child).end → o ≡ then_some (ltb next end) next →
+    (v : Value) (before after : List ℕ) → Stands ns text i v → held v ≡ before ++ child ∷ after → o ≡ front after
+next_answered ns text i child end next o t h p q r v before after s e =
+    let f = chain_next ns (i + 1) (at ns i).end (held v) before child after (held_chain ns text i v (t.nodes i h).leaf s) e in
+    let g : o ≡ then_some (ltb (at ns child).end (at ns i).end) (at ns child).end = rw (← p, ← q) r in
+    g ∙ sym (f ∙ then_cond _ _)

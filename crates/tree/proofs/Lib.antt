@@ -1,9 +1,6 @@
-pub mod Answering
 pub mod Chains
 pub mod Finding
-pub mod Known
 pub mod Laying
-pub mod Lone
 pub mod Meaning
 pub mod Parts
 pub mod Values

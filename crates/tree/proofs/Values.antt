@@ -3,10 +3,10 @@ use Rattle.std.proofs.Common.{◌≡◌, ℕ, zero, suc, ◌+◌, ◌-◌, ◌*�
 use Rattle.std.specs.List.{AllByRecursion}
 use Rattle.std.proofs.lemmas.Bool.{cond-true, cond-false, lt-ltb, le-ltb, cases_lt}
 use Rattle.tree_rule.specs.declared.node.RawNode.{RawNode}
-use Rattle.tree_rule.specs.Nodes.{at, bytes, from}
+use Rattle.tree_rule.specs.Nodes.{at, bytes, from, Forward}
 use Rattle.tree_rule.specs.Rule.{Formed, InTurn, Truth}
 use Rattle.tree.specs.Values.{Value, Items, Entries, other, boolean, integer, string, list, map, no_item, item, no_entry, entry, Stands, Row, Pairs, One}
-use Rattle.tree_rule.proofs.Walks.{Forward, all_here}
+use Rattle.tree_rule.proofs.Walks.{all_here}
 use Rattle.tree_rule.proofs.Turns.{pair_here}
 
 abbrev truth : ℤ → Bool

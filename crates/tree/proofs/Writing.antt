@@ -5,14 +5,13 @@ use Rattle.std.proofs.ByRecursion.{All-from_get_or}
 use Rattle.std.specs.List.{AllByRecursion}
 use Rattle.std.proofs.lemmas.Bool.{cases_lt}
 use Rattle.tree_rule.specs.declared.node.RawNode.{RawNode}
-use Rattle.tree_rule.specs.Nodes.{at, none, raw, bytes, children, keys_of}
+use Rattle.tree_rule.specs.Nodes.{at, none, raw, bytes, children, keys_of, Forward}
 use Rattle.tree_rule.specs.Rule.{Right, Filled, Paired, Distinct, InTurn, Nests, Apart, Equal, Leaf, Known, Truth, Ends, Lies, Spelled}
 use Rattle.tree.specs.Values.{Value, Items, Entries, other, boolean, integer, string, list, map, no_item, item, no_entry, entry, Stands, Row, Pairs, number, numbers}
 use Rattle.tree.specs.Questions.{held, item_numbers, entry_numbers}
 use Rattle.tree.specs.Limits.{size, items_size, entries_size, spelling, Fair, ItemsFair, EntriesFair, Deep, ItemsDeep, EntriesDeep, map_keys, SameKey, key_of, by_text, by_number, Within, Written, Stored}
 use Rattle.tree.proofs.Laying.{width, nodes_of, Laid, LaidItems, LaidEntries, nodes_size, laid_out}
-use Rattle.tree_rule.proofs.Walks.{Forward}
-use Rattle.tree.proofs.Chains.{held_children}
+use Rattle.tree.proofs.Chains.{held_children, stands_number}
 use Rattle.tree_rule.proofs.Nesting.{nests_node}
 
 size_pos : (v : Value) → 1 ≤ size v
@@ -39,14 +38,6 @@ laid_end ns text i t (integer n z) l = end_of ns i l.1
 laid_end ns text i t (string n bs) l = end_of ns i l.1
 laid_end ns text i t (list n vs) l = let e = end_of ns i l.1 in omega arith
 laid_end ns text i t (map n es) l = let e = end_of ns i l.1 in omega arith
-
-laid_number : (ns : List RawNode) (text : List ℕ) (i t : ℕ) (v : Value) → Laid ns text i t v → number v ≡ i
-laid_number ns text i t (other n) l = l.0
-laid_number ns text i t (boolean n b) l = l.0
-laid_number ns text i t (integer n z) l = l.0
-laid_number ns text i t (string n bs) l = l.0
-laid_number ns text i t (list n vs) l = l.0
-laid_number ns text i t (map n es) l = l.0
 
 mutual
   laid_stands : (ns : List RawNode) (text : List ℕ) (i t : ℕ) (v : Value) → Laid ns text i t v → Stands ns text i v
@@ -89,6 +80,9 @@ mutual
         subst (λ (x : ℕ). Pairs ns text x e es) (sym m)
             (entries_stand ns text (c + size k + size v) (t + width k + width v) e es l.2 (omega arith)),
       )
+
+laid_number : (ns : List RawNode) (text : List ℕ) (i t : ℕ) (v : Value) → Laid ns text i t v → number v ≡ i
+laid_number ns text i t v l = stands_number ns text i v (laid_stands ns text i t v l)
 
 -- what follows for a node from its part being laid out and fair
 abbrev Step : List RawNode → List ℕ → ℕ → (ℕ → Type 0) → Type 0

@@ -3,3 +3,4 @@ pub mod Limits
 pub mod Meaning
 pub mod Questions
 pub mod Values
+pub mod Words

@@ -1,5 +1,5 @@
 -- What a value answers, and what it is for a tree to answer from the value of a node.
-use Rattle.std.specs.Prelude.{◌≡◌, ℕ, ◌<◌, ◌≤◌, Bool, false, cond, List, [], ◌∷◌, ◌++◌, length, ℤ, Some, None, Ok, Err, Option, Result}
+use Rattle.std.specs.Prelude.{◌≡◌, ℕ, ◌<◌, ◌≤◌, Bool, false, cond, ◌==◌, ◌&&◌, List, [], ◌∷◌, ◌++◌, length, ℤ, Some, None, Ok, Err, Option, Result}
 use Rattle.std.specs.Borrow.{Bor}
 use Rattle.std.specs.Str.{bytes_eq}
 use Rattle.tree_rule.specs.declared.node.RawNode.{RawNode}
@@ -7,7 +7,8 @@ use Rattle.tree_rule.specs.declared.node.Kind.{Kind}
 use Rattle.tree_rule.specs.declared.node.Kind.TheVariants as kind
 use Rattle.tree.specs.declared.unanswered.Unanswered.{Unanswered}
 use Rattle.tree.specs.declared.unanswered.Unanswered.TheVariants.{NoSuchNode, OtherKind}
-use Rattle.tree_rule.specs.Nodes.{at}
+use Rattle.tree_rule.specs.Nodes.{at, bytes}
+use Rattle.tree_rule.specs.Kinds.{number_of}
 use Rattle.tree.specs.Values.{Value, Items, Entries, other, boolean, integer, string, list, map, no_item, item, no_entry, entry, Stands, number}
 
 abbrev pub kind_in : Value → Kind
@@ -76,6 +77,10 @@ abbrev pub find : List ℕ → Entries → Option ℕ
 find name no_entry = None
 find name (entry k v es) = cond (is_text name k) (Some (number v)) (find name es)
 
+-- node i is this string
+abbrev pub is_named : List RawNode → List ℕ → List ℕ → ℕ → Bool
+is_named ns text name i = (at ns i).kind == 3 && bytes_eq (bytes (at ns i) text) name
+
 abbrev pub under : List ℕ → Value → Option (Option ℕ)
 under name (other n) = None
 under name (boolean n b) = None
@@ -95,6 +100,12 @@ abbrev pub Found : List RawNode → ℕ → Result RawNode Unanswered → Type 0
 Found ns i (Ok n) = (i < length ns) × (n ≡ at ns i)
 Found ns i (Err NoSuchNode) = length ns ≤ i
 Found ns i (Err OtherKind) = ⊥
+
+-- the node of a number, exactly if there is one and it is of this kind
+abbrev pub FoundAs : List RawNode → ℕ → Kind → Result RawNode Unanswered → Type 0
+FoundAs ns i kind (Ok n) = (i < length ns) × (n ≡ at ns i) × (n.kind ≡ number_of kind)
+FoundAs ns i kind (Err NoSuchNode) = length ns ≤ i
+FoundAs ns i kind (Err OtherKind) = (i < length ns) × ((at ns i).kind ≡ number_of kind → ⊥)
 
 -- the bytes of a string, asked of node i
 abbrev pub Spelled : List RawNode → List ℕ → ℕ → Result (Bor (List ℕ)) Unanswered → Type 0

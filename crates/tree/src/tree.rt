@@ -1,3 +1,4 @@
+ghost use Rattle.tree_rule.specs.Props.{formed_prop};
 ghost use Rattle.tree_rule.specs.Rule.{Formed};
 
 use tree_rule::RawNode;
@@ -7,5 +8,5 @@ use tree_rule::RawNode;
 pub struct Tree<'a> {
     pub(crate) nodes: &'a [RawNode],
     pub(crate) text: &'a [u8],
-    ghost formed: { ∥ Formed nodes.now text.now ∥₁ },
+    ghost formed: { Formed nodes.now text.now } by { formed_prop nodes.now text.now },
 }

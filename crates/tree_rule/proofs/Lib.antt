@@ -1,4 +1,4 @@
-pub mod Apart
+pub mod Alls
 pub mod Nesting
 pub mod Refused
 pub mod Turns

@@ -1,5 +1,6 @@
 -- The rule of a well-formed tree, clause by clause.
-use Rattle.std.specs.Prelude.{◌≡◌, ℕ, zero, suc, ◌+◌, ◌<◌, ◌≤◌, ◌⊎◌, List, [], ◌∷◌, length, pos, IsUtf8}
+use Rattle.std.specs.Prelude.{◌≡◌, ℕ, zero, suc, ◌+◌, ◌<◌, ◌≤◌, ◌⊎◌, List, [], ◌∷◌, length, pos, Option, MatchOption, IsUtf8}
+use Rattle.std.specs.Borrow.{Bor}
 use Rattle.std.specs.List.{AllByRecursion}
 use Rattle.tree_rule.specs.declared.node.RawNode.{RawNode}
 use Rattle.tree_rule.specs.Nodes.{at, children, keys, bytes}
@@ -35,6 +36,11 @@ Leaf n i = n.kind < 4 → n.end ≡ i + 1
 -- a string lies in the text
 abbrev pub Lies : RawNode → List ℕ → Type 0
 Lies n text = n.kind ≡ 3 → n.place + n.length ≤ length text
+
+-- the bytes of a node, exactly if it is a string that lies in the text
+abbrev pub Read : RawNode → List ℕ → Option (Bor (List ℕ)) → Type 0
+Read n text o =
+    MatchOption o (n.kind ≡ 3 → Lies n text → ⊥) (λ bs. (n.kind ≡ 3) × Lies n text × (bs.now ≡ bytes n text))
 
 -- a string is UTF-8
 abbrev pub Spelled : RawNode → List ℕ → Type 0

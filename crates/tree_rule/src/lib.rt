@@ -2,13 +2,18 @@
 
 #![tactic(auto)]
 
+mod candidate;
+mod children;
 mod keys;
 mod node;
 mod refusal;
+mod sound;
 mod wellformed;
+mod whole;
 mod workspace;
 
-pub use node::{Kind, MAX_DEPTH, MAX_NODES, MAX_TEXT, RawNode};
+pub use children::{Children, Entries};
+pub use node::{Kind, MAX_DEPTH, MAX_NODES, MAX_TEXT, RawNode, UnknownKind};
 pub use refusal::{Fault, Refusal};
 pub use wellformed::judge;
 pub use workspace::Workspace;

@@ -1,5 +1,10 @@
-ghost use Rattle.std.specs.Prelude.{◌≡◌};
-ghost use Rattle.tree_rule.specs.Kinds.{kind_of};
+ghost use Rattle.std.specs.Prelude.{◌≡◌, Decides, Some};
+ghost use Rattle.tree_rule.specs.Kinds.{Names, number_of};
+ghost use Rattle.tree_rule.specs.Rule.{Read};
+ghost use Rattle.tree_rule.specs.Words.{kind_word, unknown_words};
+
+use std::error::Error;
+use std::fmt;
 
 /// The most nodes that a tree has.
 pub const MAX_NODES: usize = 65_536;
@@ -11,6 +16,7 @@ pub const MAX_TEXT: usize = 1_048_576;
 pub const MAX_DEPTH: usize = 64;
 
 /// A node as it is handed in: plain numbers, of which nothing is known.
+// The C interface wants plain numbers: a reader in C writes them, and nobody vouches that they name a kind.
 #[repr(C)]
 #[derive(Clone, Copy, PartialEq, Eq, Debug)]
 pub struct RawNode {
@@ -26,6 +32,26 @@ pub struct RawNode {
     pub number: i64,
 }
 
+impl RawNode {
+    /// Whether the node is of this kind.
+    pub fn is(self, kind: Kind) -> bool
+        ensures { Decides result (self.kind ≡ number_of kind) }
+    {
+        self.kind == u32::from(kind)
+    }
+
+    /// The bytes of a string, if the node is one and lies in the text.
+    pub fn bytes<'a>(self, text: &'a [u8]) -> Option<&'a [u8]>
+        ensures { Read self text.now result }
+    {
+        if !self.is(Kind::String) {
+            return None;
+        }
+        let start = self.place as usize;
+        text.get(start..start + self.length as usize)
+    }
+}
+
 /// What a node is.
 #[derive(Clone, Copy, PartialEq, Eq, Debug)]
 pub enum Kind {
@@ -37,19 +63,64 @@ pub enum Kind {
     Map,
 }
 
-impl Kind {
-    /// The kind with this number, if there is one.
-    pub fn from_number(number: u32) -> Option<Kind>
-        ensures { result ≡ kind_of number }
-    {
+/// A number that no kind has.
+#[derive(Clone, Copy, PartialEq, Eq, Debug)]
+pub struct UnknownKind(pub u32);
+
+impl TryFrom<u32> for Kind {
+    type Error = UnknownKind;
+
+    ghost try_from_gives = { Names };
+
+    fn try_from(number: u32) -> Result<Self, UnknownKind> {
         match number {
-            0 => Some(Kind::Other),
-            1 => Some(Kind::Boolean),
-            2 => Some(Kind::Integer),
-            3 => Some(Kind::String),
-            4 => Some(Kind::List),
-            5 => Some(Kind::Map),
-            _ => None,
+            0 => Ok(Kind::Other),
+            1 => Ok(Kind::Boolean),
+            2 => Ok(Kind::Integer),
+            3 => Ok(Kind::String),
+            4 => Ok(Kind::List),
+            5 => Ok(Kind::Map),
+            _ => Err(UnknownKind(number)),
         }
     }
 }
+
+impl From<Kind> for u32 {
+    ghost from_gives = { λ kind number. number ≡ number_of kind };
+
+    fn from(kind: Kind) -> u32 {
+        match kind {
+            Kind::Other => 0,
+            Kind::Boolean => 1,
+            Kind::Integer => 2,
+            Kind::String => 3,
+            Kind::List => 4,
+            Kind::Map => 5,
+        }
+    }
+}
+
+impl fmt::Display for Kind {
+    ghost output = { λ kind. Some (kind_word kind) };
+
+    fn fmt<W: fmt::Write>(&self, f: &mut fmt::Formatter<W>) -> fmt::Result {
+        f.write_str(match self {
+            Kind::Other => "other",
+            Kind::Boolean => "boolean",
+            Kind::Integer => "integer",
+            Kind::String => "string",
+            Kind::List => "list",
+            Kind::Map => "map",
+        })
+    }
+}
+
+impl fmt::Display for UnknownKind {
+    ghost output = { λ e. Some (unknown_words e) };
+
+    fn fmt<W: fmt::Write>(&self, f: &mut fmt::Formatter<W>) -> fmt::Result {
+        write!(f, "no kind has the number {}", self.0)
+    }
+}
+
+impl Error for UnknownKind {}

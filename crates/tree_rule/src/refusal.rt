@@ -1,3 +1,11 @@
+ghost use Rattle.std.specs.Prelude.{◌≡◌, Some};
+ghost use Rattle.tree_rule.specs.declared.refusal.Fault.TheVariants as fault;
+ghost use Rattle.tree_rule.specs.Words.{fault_words, refusal_words};
+
+use crate::node::UnknownKind;
+use std::error::Error;
+use std::fmt;
+
 /// Why nodes and text are no tree. Of several reasons the first in this order is given, at the first node that it holds of.
 #[derive(Clone, Copy, PartialEq, Eq, Debug)]
 pub enum Refusal {
@@ -32,4 +40,48 @@ pub enum Fault {
     /// a string that does not lie in the text
     OutsideText,
     NotUtf8,
+}
+
+impl fmt::Display for Refusal {
+    ghost output = { λ refusal. Some (refusal_words refusal) };
+
+    fn fmt<W: fmt::Write>(&self, f: &mut fmt::Formatter<W>) -> fmt::Result {
+        match self {
+            Refusal::NodeCount => f.write_str("there are no nodes, or too many"),
+            Refusal::TextLength => f.write_str("the text is too long"),
+            Refusal::Root => f.write_str("node 0 does not end behind the last node"),
+            Refusal::Node { fault, .. } => fault.fmt(f),
+            Refusal::Overrun { .. } => f.write_str("children do not fill their node"),
+            Refusal::Unpaired { .. } => f.write_str("a key of a map has no value"),
+            Refusal::TooDeep => f.write_str("nodes nest more than 64 deep"),
+            Refusal::EqualKeys { .. } => f.write_str("two keys of a map are equal"),
+        }
+    }
+}
+
+impl Error for Refusal {}
+
+impl fmt::Display for Fault {
+    ghost output = { λ fault. Some (fault_words fault) };
+
+    fn fmt<W: fmt::Write>(&self, f: &mut fmt::Formatter<W>) -> fmt::Result {
+        f.write_str(match self {
+            Fault::UnknownKind => "a node has no known kind",
+            Fault::BadBoolean => "a boolean is neither 0 nor 1",
+            Fault::BadEnd => "a node does not end behind itself, or ends behind the last",
+            Fault::LeafHolds => "a node that is neither a list nor a map holds nodes",
+            Fault::OutsideText => "a string does not lie in the text",
+            Fault::NotUtf8 => "a string is not UTF-8",
+        })
+    }
+}
+
+impl Error for Fault {}
+
+impl From<UnknownKind> for Fault {
+    ghost from_gives = { λ _ e. e ≡ fault.UnknownKind };
+
+    fn from(_unknown: UnknownKind) -> Fault {
+        Self::UnknownKind
+    }
 }

@@ -5,36 +5,34 @@ use tree::{Kind, RawNode, Unanswered, Workspace};
 #[test]
 fn keys_of_other_kinds(rt: HostRuntime) -> Result<(), Fail> {
     let nodes = [
-        node(5, 5, 0),
-        node(1, 2, 1),
-        node(0, 3, 0),
-        node(1, 4, 1),
-        node(0, 5, 0),
+        node(Kind::Map, 5, 0),
+        node(Kind::Boolean, 2, 1),
+        node(Kind::Other, 3, 0),
+        node(Kind::Boolean, 4, 1),
+        node(Kind::Other, 5, 0),
     ];
     let mut work = Workspace::new(rt.alloc())?;
-    let (_, refusal) = tree::check(&nodes, b"", &mut work);
-    assert_eq!(rt; refusal, None);
+    tree::check(&nodes, b"", &mut work)?;
     Ok(())
 }
 
 #[test]
 fn answers(rt: HostRuntime) -> Result<(), Fail> {
     let nodes = [
-        node(5, 5, 0),
+        node(Kind::Map, 5, 0),
         RawNode {
-            kind: 3,
+            kind: Kind::String.into(),
             end: 2,
             place: 1,
             length: 2,
             number: 0,
         },
-        node(1, 3, 1),
-        node(2, 4, -3),
-        node(4, 5, 0),
+        node(Kind::Boolean, 3, 1),
+        node(Kind::Integer, 4, -3),
+        node(Kind::List, 5, 0),
     ];
     let mut work = Workspace::new(rt.alloc())?;
-    let (tree, refusal) = tree::check(&nodes, b"xkey", &mut work);
-    assert_eq!(rt; refusal, None);
+    let tree = tree::check(&nodes, b"xkey", &mut work)?;
     assert_eq!(rt; tree.kind(0), Ok(Kind::Map));
     assert_eq!(rt; tree.kind(5), Err(Unanswered::NoSuchNode));
     assert_eq!(rt; tree.get(0, b"ke"), Ok(Some(2)));

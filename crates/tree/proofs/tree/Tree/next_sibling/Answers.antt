@@ -1,14 +1,8 @@
-use Rattle.tree.proofs.Chains.{next_some, next_none}
+use Rattle.tree.proofs.Chains.{next_answered}
 use Rattle.tree.proofs.tree.Tree.next_sibling.Goals as goal
 
-pub returns-then-next-end : goal.returns-then-next-end
-returns-then-next-end c =
-    let f = c.in_ok-end.ensures in
-    let g = c.in_ok-next.ensures in
-    (f.0, g.0, next_some _ _ _ _ _ _ c.args.self.now.formed f.0 f.1 g.1 c.if-next-end.true)
-
-pub returns-else-next-end : goal.returns-else-next-end
-returns-else-next-end c =
-    let f = c.in_ok-end.ensures in
-    let g = c.in_ok-next.ensures in
-    (f.0, g.0, next_none _ _ _ _ _ _ c.args.self.now.formed f.0 f.1 g.1 c.if-next-end.false)
+pub returns : goal.returns
+returns c =
+    let e = c.in_ok-end.ensures in
+    let n = c.in_ok-next.ensures in
+    (e.0, n.0, next_answered _ _ _ _ _ _ _ c.args.self.now.formed e.0 e.1 n.1 c.then_some.ensures)

@@ -1,57 +1,28 @@
-use Rattle.std.proofs.Common.{refl, ◌∙◌, arith}
-use Rattle.tree_rule.specs.Nodes.{at}
-use Rattle.tree.proofs.Known.{ended_known, turn_known}
-use Rattle.tree_rule.proofs.Walks.{forward}
-use Rattle.tree_rule.proofs.Turns.{pair_here}
-use Rattle.tree.proofs.Finding.{found_here, not_here, nowhere}
+use Rattle.std.proofs.Common.{ℕ, ap, ◌∙◌, sym, rules}
+use Rattle.std.specs.Option.{option_map}
+use Rattle.std.proofs.lemmas.Iterator.Consumers.{YieldsList-from_first}
+use Rattle.std.proofs.lemmas.Iterator.Search.{find_from_yields_List}
+use borrow.Author.Tests.{tests}
+use Rattle.tree_rule.specs.Nodes.{from, children, entries_of}
+use Rattle.tree_rule.specs.declared.children.Entries.{Entries}
+use Rattle.tree.specs.Questions.{is_named}
+use Rattle.tree.proofs.Finding.{found_under}
 use Rattle.tree.proofs.tree.Tree.value_under.Goals as goal
 
-pub loop-key-init : goal.loop-key-init
-loop-key-init c = (
-  turn_known _ _ _ c.args.self.now.formed c.requires.map_in_bounds c.requires.is_map,
-  λ es p. record { rest = es; pairs = p; finds = refl },
-)
-
-pub bounds-self-key : goal.bounds-self-key
-bounds-self-key c =
-    let ended = ended_known _ _ c.args.self.now.formed in
-    omega (arith, (ended c.args.map c.requires.map_in_bounds).1)
-
-pub is_key-requires : goal.is_key-requires
-is_key-requires c =
-    let ended = ended_known _ _ c.args.self.now.formed in
-    omega (arith, (ended c.args.map c.requires.map_in_bounds).1)
-
-pub returns-then-is_key : goal.returns-then-is_key
-returns-then-is_key c = λ es p.
-    let b = c.loop-key.invariant.1 es p in
-    b.finds ∙ found_here _ _ _ _ _ b.rest c.loop-key-test.true b.pairs c.if-is_key.ensures
-
-pub bounds-self-value : goal.bounds-self-value
-bounds-self-value c =
+pub returns-in_err-value : goal.returns-in_err-value
+returns-in_err-value c = λ es p.
     let ns = c.args.self.now.nodes.now in
-    let ended = ended_known _ _ c.args.self.now.formed in
-    let fw = forward ns c.args.map ended c.requires.map_in_bounds in
-    let p = pair_here ns (at ns c.args.map).end c.loop-key.key fw c.loop-key-test.true c.loop-key.invariant.0 in
-    omega (arith, p.valued, (ended c.args.map c.requires.map_in_bounds).1)
-
-pub loop-key-smaller : goal.loop-key-smaller
-loop-key-smaller c =
-    let ns = c.args.self.now.nodes.now in
-    let ended = ended_known _ _ c.args.self.now.formed in
-    let fw = forward ns c.args.map ended c.requires.map_in_bounds in
-    let p = pair_here ns (at ns c.args.map).end c.loop-key.key fw c.loop-key-test.true c.loop-key.invariant.0 in
-    omega (arith, p.valued, fw c.loop-key.key c.loop-key-test.true, fw (at ns c.loop-key.key).end p.valued)
-
-pub loop-key-preserved : goal.loop-key-preserved
-loop-key-preserved c =
-    let ns = c.args.self.now.nodes.now in
-    let ended = ended_known _ _ c.args.self.now.formed in
-    let fw = forward ns c.args.map ended c.requires.map_in_bounds in
-    let p = pair_here ns (at ns c.args.map).end c.loop-key.key fw c.loop-key-test.true c.loop-key.invariant.0 in (
-      p.turn,
-      λ es q. not_here _ _ _ _ _ _ c.loop-key-test.true (c.loop-key.invariant.1 es q) c.if-is_key.ensures,
-    )
+    let found = find_from_yields_List (λ (p : ℕ × ℕ). is_named ns c.args.self.now.text.now c.args.name.now p.0) c.find.new.self _ c.find.result c.find.ensures.ran
+    (YieldsList-from_first (λ x. x) (λ (s : Entries). entries_of (from s.children.nodes.now s.children.end s.children.next)) (entries_of (children ns c.args.map)) (cc))
+    (λ x b q k. search (rules, tests)) in
+    found_under ns c.args.self.now.text.now c.args.name.now c.args.map c.find.result c.args.self.now.formed c.requires found es p
+    ∙ ap (option_map (λ (q : ℕ × ℕ). q.1)) c.in_err-value.was ∙ sym c.from_residual.ensures
 
 pub returns : goal.returns
-returns c = λ es p. nowhere _ _ _ _ _ _ c.loop-key-test.false (c.loop-key.invariant.1 es p)
+returns c = λ es p.
+    let ns = c.args.self.now.nodes.now in
+    let found = find_from_yields_List (λ (p : ℕ × ℕ). is_named ns c.args.self.now.text.now c.args.name.now p.0) c.find.new.self _ c.find.result c.find.ensures.ran
+    (YieldsList-from_first (λ x. x) (λ (s : Entries). entries_of (from s.children.nodes.now s.children.end s.children.next)) (entries_of (children ns c.args.map)) (cc))
+    (λ x b q k. search (rules, tests)) in
+    found_under ns c.args.self.now.text.now c.args.name.now c.args.map c.find.result c.args.self.now.formed c.requires found es p
+    ∙ ap (option_map (λ (q : ℕ × ℕ). q.1)) c.in_ok-value.was
