@@ -1,7 +1,7 @@
 ghost use Rattle.std.specs.Prelude.{◌≡◌, ℕ, ◌≤◌, List, Option};
 ghost use Rattle.std.specs.Result.{result_err};
 
-/// A fault that has a number.
+/// A fault that has a number, from 1 to 255: records keep faults by their numbers.
 pub trait Numbered: Copy {
     ghost numbered: { Self → ℕ };
 

@@ -24,6 +24,8 @@ pub enum Refusal<F> {
 }
 
 impl<F: Copy> Refusal<F> {
+    /// The number under which a refusal is told to those who do not know its type.
+    // Written out and no discriminant: the variants carry nodes and faults.
     pub fn number(self) -> u8
         ensures { result ≡ refusal_number self }
     {

@@ -29,6 +29,7 @@ impl<F: fmt::Display> fmt::Display for Refused<F> {
 impl<F: Error + Copy> Error for Refused<F> {}
 
 /// Judges texts in their order: all are fine, or the first that is not is told, with its fault.
+// Engine, whole and texts stay apart, here and below: callers hold them apart, and a struct would be made for one call.
 pub fn judge_all<E: Engine>(
     engine: &mut E,
     whole: &[u8],

@@ -46,6 +46,7 @@ impl RecordedFault {
     fn told(verdict: u8) -> Result<(), Self>
         ensures { result_err result ≡ fault_of verdict }
     {
+        // A `match`: `map_or` would say the same with a closure.
         match NonZeroU8::new(verdict) {
             None => Ok(()),
             Some(number) => Err(RecordedFault { number }),

@@ -44,6 +44,7 @@ impl ClassWalker {
         ensures closing { result ≡ closes self.old byte }
         ensures after { self.new ≡ stepped self.old byte }
     {
+        // One table of state and byte, as the definition has it; a closure for each state would say it in four places.
         match (self.state, byte) {
             (ClassState::Escaped, b'n') => {
                 self.newline = self.newline || (!self.negated && self.depth == 0);

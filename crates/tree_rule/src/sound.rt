@@ -69,6 +69,7 @@ impl<'a> Sound<'a> {
     fn check_children(&self) -> Result<(), Refusal>
         ensures { MatchResult result (λ _. Each self.now.nodes.now (Holds self.now.nodes.now)) (Refuses self.now.nodes.now self.now.text.now) }
     {
+        // By number, since what is asked of a node is about its place among the others.
         for node in 0..self.nodes.len() {
             if !self.is_filled(node) {
                 return Err(Refusal::Overrun { node });

@@ -62,6 +62,7 @@ impl Whole<'_> {
         requires nested { Nests 64 self.now.sound.nodes.now 0 }
         ensures { MatchResult result (λ _. Each self.now.sound.nodes.now (Distinct self.now.sound.nodes.now self.now.sound.text.now)) (Refuses self.now.sound.nodes.now self.now.sound.text.now) }
     {
+        // By number, since what is asked of a node is about its place among the others.
         for node in 0..self.sound.nodes.len() {
             if !self.is_distinct(node, work) {
                 return Err(Refusal::EqualKeys { node });

@@ -34,6 +34,17 @@ fn refused<'a>(
     Ok(())
 }
 
+/// The first node whose own numbers are wrong, and what is wrong with it.
+fn faulty<'a>(
+    rt: &(impl Abort + AllocGlobal),
+    nodes: &'a [RawNode],
+    bytes: &'a [u8],
+    node: usize,
+    fault: Fault,
+) -> Result<(), Fail> {
+    refused(rt, nodes, bytes, Refusal::Node { node, fault })
+}
+
 #[test]
 fn sizes(rt: HostRuntime) -> Result<(), Fail> {
     refused(&rt, &[], b"", Refusal::NodeCount)?;
@@ -52,7 +63,7 @@ fn sizes(rt: HostRuntime) -> Result<(), Fail> {
         b"",
         Refusal::Root,
     )?;
-    refused(
+    faulty(
         &rt,
         &[node(Kind::List, 1, 0), node(Kind::Other, 2, 0)],
         b"",
@@ -62,127 +73,65 @@ fn sizes(rt: HostRuntime) -> Result<(), Fail> {
 
 #[test]
 fn own_numbers(rt: HostRuntime) -> Result<(), Fail> {
-    refused(
-        &rt,
-        &[node(6u32, 1, 0)],
-        b"",
-        Refusal::Node {
-            node: 0,
-            fault: Fault::UnknownKind,
-        },
-    )?;
-    refused(
+    refused(&rt, &[node(6u32, 1, 0)], b"", 0, Fault::UnknownKind)?;
+    faulty(
         &rt,
         &[node(4_294_967_295u32, 1, 0)],
         b"",
-        Refusal::Node {
-            node: 0,
-            fault: Fault::UnknownKind,
-        },
+        0,
+        Fault::UnknownKind,
     )?;
-    refused(
-        &rt,
-        &[node(Kind::Boolean, 1, 2)],
-        b"",
-        Refusal::Node {
-            node: 0,
-            fault: Fault::BadBoolean,
-        },
-    )?;
-    refused(
+    faulty(&rt, &[node(Kind::Boolean, 1, 2)], b"", 0, Fault::BadBoolean)?;
+    faulty(
         &rt,
         &[node(Kind::Boolean, 1, -1)],
         b"",
-        Refusal::Node {
-            node: 0,
-            fault: Fault::BadBoolean,
-        },
+        0,
+        Fault::BadBoolean,
     )?;
-    refused(
+    faulty(
         &rt,
         &[node(Kind::List, 2, 0), node(Kind::Other, 1, 0)],
         b"",
-        Refusal::Node {
-            node: 1,
-            fault: Fault::BadEnd,
-        },
+        1,
+        Fault::BadEnd,
     )?;
-    refused(
+    faulty(
         &rt,
         &[node(Kind::List, 2, 0), node(Kind::Other, 3, 0)],
         b"",
-        Refusal::Node {
-            node: 1,
-            fault: Fault::BadEnd,
-        },
+        1,
+        Fault::BadEnd,
     )?;
-    refused(
+    faulty(
         &rt,
         &[node(Kind::Integer, 2, 0), node(Kind::Other, 2, 0)],
         b"",
-        Refusal::Node {
-            node: 0,
-            fault: Fault::LeafHolds,
-        },
+        0,
+        Fault::LeafHolds,
     )?;
-    refused(
+    faulty(
         &rt,
         &[text(2, 0, 0), node(Kind::Other, 2, 0)],
         b"",
-        Refusal::Node {
-            node: 0,
-            fault: Fault::LeafHolds,
-        },
+        0,
+        Fault::LeafHolds,
     )
 }
 
 #[test]
 fn strings(rt: HostRuntime) -> Result<(), Fail> {
-    refused(
-        &rt,
-        &[text(1, 0, 3)],
-        b"ab",
-        Refusal::Node {
-            node: 0,
-            fault: Fault::OutsideText,
-        },
-    )?;
-    refused(
-        &rt,
-        &[text(1, 3, 0)],
-        b"ab",
-        Refusal::Node {
-            node: 0,
-            fault: Fault::OutsideText,
-        },
-    )?;
-    refused(
+    faulty(&rt, &[text(1, 0, 3)], b"ab", 0, Fault::OutsideText)?;
+    faulty(&rt, &[text(1, 3, 0)], b"ab", 0, Fault::OutsideText)?;
+    faulty(
         &rt,
         &[text(1, 4_294_967_295, 4_294_967_295)],
         b"ab",
-        Refusal::Node {
-            node: 0,
-            fault: Fault::OutsideText,
-        },
+        0,
+        Fault::OutsideText,
     )?;
-    refused(
-        &rt,
-        &[text(1, 0, 1)],
-        b"\xC3\xA9",
-        Refusal::Node {
-            node: 0,
-            fault: Fault::NotUtf8,
-        },
-    )?;
-    refused(
-        &rt,
-        &[text(1, 1, 1)],
-        b"\xC3\xA9",
-        Refusal::Node {
-            node: 0,
-            fault: Fault::NotUtf8,
-        },
-    )
+    faulty(&rt, &[text(1, 0, 1)], b"\xC3\xA9", 0, Fault::NotUtf8)?;
+    faulty(&rt, &[text(1, 1, 1)], b"\xC3\xA9", 0, Fault::NotUtf8)
 }
 
 #[test]
