@@ -6,7 +6,6 @@ mod by_place;
 mod chains;
 mod frontier;
 mod graph;
-mod laws;
 mod marking;
 #[cfg(test)]
 mod tests;

@@ -8,7 +8,6 @@ ghost use Rattle.graph.specs.Verdict.{refusal_text, verdict};
 use crate::by_place::PairsByPlace;
 use crate::frontier::Frontier;
 use crate::graph::Graph;
-use crate::laws::laws_of_marking;
 use crate::workspace::Workspace;
 use std::error::Error;
 use std::fmt;
@@ -61,6 +60,7 @@ impl fmt::Display for Refusal {
 impl Error for Refusal {}
 
 /// Marks the places that pairs lead to, one after another, from the places that are marked.
+#[tactic(auto, using(crate::proofs::Lawful::laws_of_marking))]
 pub fn mark<G: Graph>(graph: &G, marks: &mut [bool], work: &mut Workspace) -> Result<(), Refusal>
     ensures verdict { result ≡ verdict (length marks.old) (G.place_count graph.now) (G.pair_count graph.now) work.old.places work.old.pairs }
     ensures marking { result ≡ Ok tt → Marking (G.place_count graph.now) (G.pair_count graph.now) (G.pair_at graph.now) marks.old marks.new }
@@ -69,7 +69,6 @@ pub fn mark<G: Graph>(graph: &G, marks: &mut [bool], work: &mut Workspace) -> Re
     ensures pairs { work.new.pairs ≡ work.old.pairs }
     ensures laws { Laws }
 {
-    laws_of_marking();
     let places = graph.places();
     let count = graph.pairs();
     if marks.len() != places {

@@ -7,11 +7,6 @@ use newlines::{regex_for_newlines, regex_for_no_newlines};
 use std::alloc::{AllocError, Global};
 use tokens::replace_posix_char_classes;
 
-/// A lemma: it does nothing, and its caller has the laws of rewriting to hand on.
-fn laws_of_rewriting()
-    ensures { RewritingLaws }
-{}
-
 /// Rewrites the patterns of a grammar as a loader does.
 #[derive(Drop)]
 pub struct Rewriter {
@@ -28,6 +23,7 @@ impl Rewriter {
     }
 
     /// Appends the pattern with properties in the place of POSIX brackets, for lines with or without a newline at their end.
+    #[tactic(auto, using(crate::proofs::RewritingLaws::rewriting_laws))]
     pub fn rewrite(
         &mut self,
         regex: &[u8],
@@ -37,7 +33,6 @@ impl Rewriter {
         ensures text { Rewritten lines_include_newline regex.now out.old result out.new }
         ensures laws { RewritingLaws }
     {
-        laws_of_rewriting();
         self.replaced.clear();
         replace_posix_char_classes(regex, &mut self.replaced)?;
         // A flag and no enum: callers pass the loader's setting as it is.
