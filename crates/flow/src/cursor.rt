@@ -1,4 +1,4 @@
-ghost use Rattle.std.specs.Prelude.{◌≡◌, ◌+◌, ◌<◌, ◌≤◌, length, drop, IfOk, IfErr, MatchOption, slice_index};
+ghost use Rattle.std.specs.Prelude.{◌≡◌, ◌+◌, ◌<◌, ◌≤◌, length, drop, IfOk, IfErr, OnErr, MatchOption, slice_index};
 ghost use Rattle.std.specs.List.{prefix_len};
 ghost use Rattle.flow.specs.declared.misread.Reason.TheVariants.{Unfinished};
 ghost use Rattle.flow.specs.Places.{Told};
@@ -78,6 +78,7 @@ impl<'a> Cursor<'a> {
         ensures place { self.new.place ≡ past_blanks self.old.input.now self.old.place }
         ensures byte { IfOk result (λ b. (self.new.place < length self.new.input.now) × (slice_index self.new.input.now self.new.place ≡ b)) }
         ensures told { IfErr result (λ m. (m.reason ≡ Unfinished) × Told self.old.input.now m) }
+        ensures ended { OnErr result (self.new.place ≡ length self.old.input.now) }
     {
         self.skip_blanks();
         self.peek().ok_or(self.misread(Reason::Unfinished))

@@ -5,6 +5,7 @@
 mod arrays;
 mod content;
 mod cursor;
+mod depth;
 mod misread;
 mod reader;
 mod scalars;

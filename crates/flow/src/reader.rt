@@ -1,17 +1,17 @@
-ghost use Rattle.std.specs.Prelude.{◌≡◌, ◌≢◌, ◌+◌, ◌<◌, ◌≤◌, ◌⊎◌, cond, true, ◌∷◌, [], ◌++◌, length, drop, vec_len, IfSome, IfOk, IfErr, OnOk, MatchOption, MatchResult, slice_index};
+ghost use Rattle.std.specs.Prelude.{ℕ, ◌≡◌, ◌≢◌, ◌+◌, ◌<◌, ◌≤◌, ◌⊎◌, cond, true, ◌∷◌, [], ◌++◌, length, drop, vec_len, IfSome, IfOk, IfErr, OnErr, OnOk, MatchOption, MatchResult, slice_index};
 ghost use Rattle.flow.specs.declared.misread.Reason.TheVariants.{NoComma, TooDeep, Unfinished};
 ghost use Rattle.flow.specs.Content.{closing_of, content_kind, content_number, is_map, node_of, opening_of};
 ghost use Rattle.flow.specs.Flow.{is_blanks, Document, Item, Items, Key, Value};
 ghost use Rattle.flow.specs.Places.{NoRoom, Startless, Told};
 ghost use Rattle.flow.specs.Reads.{Reads};
 ghost use Rattle.flow.specs.Scalars.{Word, Wordless};
-ghost use Rattle.flow.specs.Sofar.{Behind, IsEnd};
+ghost use Rattle.flow.specs.Sofar.{Behind, IsEnd, past_blanks};
 
 use crate::arrays::Arrays;
 use crate::content::{Content, Group};
 use crate::cursor::Cursor;
+use crate::depth::Depth;
 use crate::misread::{Misread, Reason};
-use tree::MAX_DEPTH;
 
 /// The word at the front: what it is, and its width.
 fn word(bytes: &[u8]) -> Option<(Content, usize)>
@@ -74,7 +74,7 @@ impl Cursor<'_> {
     fn read_closing(&mut self, group: Group) -> Result<bool, Misread>
         ensures input { self.new.input ≡ self.old.input }
         ensures told { IfErr result (λ m. Told self.old.input.now m) }
-        ensures refused { IfErr result (λ m. m.reason ≡ Unfinished) }
+        ensures refused { IfErr result (λ m. (m.reason ≡ Unfinished) × (past_blanks self.old.input.now self.old.place ≡ length self.old.input.now)) }
         ensures is { IfOk result (λ ended. IsEnd ended (closing_of group) self.old.input.now self.old.place self.new.place) }
     {
         if self.next_token()? != group.closing() {
@@ -100,15 +100,15 @@ impl Cursor<'_> {
     }
 
     /// Opens a list or map here, and gives how many more may open in it.
-    fn open_group(&self, group: Group, depth: usize, arrays: &mut Arrays) -> Result<usize, Misread>
+    fn open_group(&self, group: Group, depth: Depth, arrays: &mut Arrays) -> Result<Depth, Misread>
         ensures text { arrays.new.text ≡ arrays.old.text }
         ensures nodes { OnOk result (arrays.new.nodes.items ≡ arrays.old.nodes.items ++ node_of (Content.Group group) (length arrays.old.nodes.items + 1) ∷ []) }
         ensures place { IfErr result (λ m. m.place ≡ self.now.place) }
-        ensures refused { MatchResult result (λ left. depth ≡ left + 1) (λ m. ((m.reason ≡ TooDeep) × (depth ≡ 0)) ⊎ NoRoom m.reason) }
+        ensures refused { MatchResult result (λ inside. depth.left ≡ inside.left + 1) (λ m. ((m.reason ≡ TooDeep) × (depth.left ≡ 0)) ⊎ NoRoom m.reason) }
     {
-        let left = depth.checked_sub(1).ok_or(self.misread(Reason::TooDeep))?;
+        let inside = depth.inside().ok_or(self.misread(Reason::TooDeep))?;
         self.push(Content::Group(group), arrays)?;
-        Ok(left)
+        Ok(inside)
     }
 
     /// Reads a value that holds no other.
@@ -125,7 +125,7 @@ impl Cursor<'_> {
 
     /// Reads a value, in which so many lists and maps may nest.
     #[cycle(value)]
-    fn read_value(&mut self, depth: usize, arrays: &mut Arrays) -> Result<(), Misread>
+    fn read_value(&mut self, depth: Depth, arrays: &mut Arrays) -> Result<(), Misread>
         ensures input { self.new.input ≡ self.old.input }
         ensures told { IfErr result (λ m. Told self.old.input.now m) }
         ensures reads { OnOk result (Reads Value self.old self.new arrays.old arrays.new) }
@@ -135,18 +135,19 @@ impl Cursor<'_> {
             return self.read_leaf(arrays);
         };
         let node = arrays.nodes.len();
-        let left = self.open_group(group, depth, arrays)?;
+        let inside = self.open_group(group, depth, arrays)?;
         self.skip(1);
-        self.read_items(group, left, arrays)?;
+        self.read_items(group, inside, arrays)?;
         arrays.close(node);
         Ok(())
     }
 
     /// Reads what a list or map holds, and its end.
     #[cycle(value)]
-    fn read_items(&mut self, group: Group, depth: usize, arrays: &mut Arrays) -> Result<(), Misread>
+    fn read_items(&mut self, group: Group, depth: Depth, arrays: &mut Arrays) -> Result<(), Misread>
         ensures input { self.new.input ≡ self.old.input }
         ensures told { IfErr result (λ m. Told self.old.input.now m) }
+        ensures closes { (end : ℕ) → Behind (closing_of group) self.old.input.now self.old.place end → OnErr result ⊥ }
         ensures reads { OnOk result (Reads (Items (is_map group)) self.old self.new arrays.old arrays.new) }
     {
         if self.read_closing(group)? {
@@ -161,7 +162,7 @@ impl Cursor<'_> {
 
     /// Reads a value of a list, or an entry of a map.
     #[cycle(value)]
-    fn read_item(&mut self, group: Group, depth: usize, arrays: &mut Arrays) -> Result<(), Misread>
+    fn read_item(&mut self, group: Group, depth: Depth, arrays: &mut Arrays) -> Result<(), Misread>
         ensures input { self.new.input ≡ self.old.input }
         ensures told { IfErr result (λ m. Told self.old.input.now m) }
         ensures reads { OnOk result (Reads (Item (is_map group)) self.old self.new arrays.old arrays.new) }
@@ -174,7 +175,7 @@ impl Cursor<'_> {
 
     /// Reads a key and its value.
     #[cycle(value)]
-    fn read_entry(&mut self, depth: usize, arrays: &mut Arrays) -> Result<(), Misread>
+    fn read_entry(&mut self, depth: Depth, arrays: &mut Arrays) -> Result<(), Misread>
         ensures input { self.new.input ≡ self.old.input }
         ensures told { IfErr result (λ m. Told self.old.input.now m) }
         ensures reads { OnOk result (Reads (Item true) self.old self.new arrays.old arrays.new) }
@@ -188,6 +189,7 @@ impl Cursor<'_> {
     /// Sees that nothing but blanks stands here.
     fn read_end(&mut self) -> Result<(), Misread>
         ensures told { IfErr result (λ m. Told self.old.input.now m) }
+        ensures place { IfErr result (λ m. m.place ≡ past_blanks self.old.input.now self.old.place) }
         ensures is { OnOk result (is_blanks (drop self.old.place self.old.input.now) ≡ true) }
     {
         self.skip_blanks();
@@ -206,7 +208,7 @@ impl Arrays {
         self.nodes.clear();
         self.text.clear();
         let mut cursor = Cursor::new(input);
-        cursor.read_value(MAX_DEPTH, self)?;
+        cursor.read_value(Depth::outermost(), self)?;
         cursor.read_end()
     }
 }

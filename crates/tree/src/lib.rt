@@ -9,5 +9,7 @@ mod unanswered;
 
 pub use checking::check;
 pub use tree::Tree;
-pub use tree_rule::{Fault, Kind, MAX_DEPTH, MAX_NODES, MAX_TEXT, RawNode, Refusal, Workspace};
+pub use tree_rule::{
+    Fault, Kind, MAX_DEPTH, MAX_NODES, MAX_TEXT, RawNode, Refusal, UnknownKind, Workspace,
+};
 pub use unanswered::Unanswered;

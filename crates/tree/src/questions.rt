@@ -107,8 +107,9 @@ impl<'a> Tree<'a> {
             end: self.nodes[map].end as usize,
         };
         let mut entries = tree_rule::Entries { children };
-        let (_, value) = entries.find(|(key, _)| self.is_key(*key, name))?;
-        Some(value)
+        entries
+            .find(|(key, _)| self.is_key(*key, name))
+            .map(|(_, value)| value)
     }
 
     /// The value under a string key of a map, or none.

@@ -180,10 +180,7 @@ fn keys(rt: HostRuntime) -> Result<(), Fail> {
 }
 
 fn chain(rt: &HostRuntime, deep: u32) -> Result<Vec<RawNode>, Fail> {
-    let mut nodes = vec![in rt.alloc()]?;
-    for _ in 0..deep {
-        nodes.push(node(Kind::List, deep, 0))?;
-    }
+    let nodes = vec![in rt.alloc(); node(Kind::List, deep, 0); deep as usize]?;
     Ok(nodes)
 }
 

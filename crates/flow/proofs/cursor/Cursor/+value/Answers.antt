@@ -13,7 +13,7 @@ read_value-returns-clause-reads t c =
     let here = c.in_ok-byte.ensures.byte in
     value_past _ _ _ _ _ c.next_token.ensures.input c.next_token.ensures.place
     (group_at (is_map c.in-Some.group) c.next_token.new.self _ _ _ _ _ _ _ c.skip.ensures.input c.skip.ensures.place (here.1 ∙ c.in-Some.ensures) here.0
-    (c.len-node.ensures ∙ c.args.arrays.now.nodes.ok.0) c.in_ok-left.ensures.nodes c.open_group.ensures.text c.in_ok-read_items.ensures.reads
+    (c.len-node.ensures ∙ c.args.arrays.now.nodes.ok.0) c.in_ok-inside.ensures.nodes c.open_group.ensures.text c.in_ok-read_items.ensures.reads
     c.close.ensures.nodes c.close.ensures.text)
 
 pub read_entry-returns-clause-reads : goal.read_entry-returns-clause-reads

@@ -5,16 +5,16 @@ use Rattle.flow.proofs.cursor.Cursor.+value.Given as goal
 
 -- each list or map that opens takes one from the depth, and each other call takes one from the rank
 abbrev pub decreases-read_value : goal.decreases-read_value
-decreases-read_value l = 4 * l.depth
+decreases-read_value l = 4 * l.depth.left
 
 abbrev pub decreases-read_entry : goal.decreases-read_entry
-decreases-read_entry l = 4 * l.depth + 1
+decreases-read_entry l = 4 * l.depth.left + 1
 
 abbrev pub decreases-read_item : goal.decreases-read_item
-decreases-read_item l = 4 * l.depth + 2
+decreases-read_item l = 4 * l.depth.left + 2
 
 abbrev pub decreases-read_items : goal.decreases-read_items
-decreases-read_items l = 4 * l.depth + 3
+decreases-read_items l = 4 * l.depth.left + 3
 
 abbrev pub invariant-read_items-loop-self : goal.invariant-read_items-loop-self
 invariant-read_items-loop-self l = record {

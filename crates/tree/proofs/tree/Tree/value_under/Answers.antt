@@ -1,5 +1,4 @@
-use Rattle.std.proofs.Common.{ℕ, ap, ◌∙◌, sym, rules}
-use Rattle.std.specs.Option.{option_map}
+use Rattle.std.proofs.Common.{ℕ, ◌∙◌, rules}
 use Rattle.std.proofs.lemmas.Iterator.Consumers.{YieldsList-from_first}
 use Rattle.std.proofs.lemmas.Iterator.Search.{find_from_yields_List}
 use borrow.Author.Tests.{tests}
@@ -9,15 +8,6 @@ use Rattle.tree.specs.Questions.{is_named}
 use Rattle.tree.proofs.Finding.{found_under}
 use Rattle.tree.proofs.tree.Tree.value_under.Goals as goal
 
-pub returns-in_err-value : goal.returns-in_err-value
-returns-in_err-value c = λ es p.
-    let ns = c.args.self.now.nodes.now in
-    let found = find_from_yields_List (λ (p : ℕ × ℕ). is_named ns c.args.self.now.text.now c.args.name.now p.0) c.find.new.self _ c.find.result c.find.ensures.ran
-    (YieldsList-from_first (λ x. x) (λ (s : Entries). entries_of (from s.children.nodes.now s.children.end s.children.next)) (entries_of (children ns c.args.map)) (cc))
-    (λ x b q k. search (rules, tests)) in
-    found_under ns c.args.self.now.text.now c.args.name.now c.args.map c.find.result c.args.self.now.formed c.requires found es p
-    ∙ ap (option_map (λ (q : ℕ × ℕ). q.1)) c.in_err-value.was ∙ sym c.from_residual.ensures
-
 pub returns : goal.returns
 returns c = λ es p.
     let ns = c.args.self.now.nodes.now in
@@ -25,4 +15,4 @@ returns c = λ es p.
     (YieldsList-from_first (λ x. x) (λ (s : Entries). entries_of (from s.children.nodes.now s.children.end s.children.next)) (entries_of (children ns c.args.map)) (cc))
     (λ x b q k. search (rules, tests)) in
     found_under ns c.args.self.now.text.now c.args.name.now c.args.map c.find.result c.args.self.now.formed c.requires found es p
-    ∙ ap (option_map (λ (q : ℕ × ℕ). q.1)) c.in_ok-value.was
+    ∙ search (rules, tests)
