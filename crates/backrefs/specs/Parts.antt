@@ -1,6 +1,8 @@
 -- Parts of a line.
-use Rattle.std.specs.Prelude.{◌≡◌, ℕ, ◌-◌, ◌<◌, Bool, true, cond, ◌&&◌, List, length, take, drop, Some, None, Option, nat_le, slice_index_or}
+use Rattle.std.specs.Fmt.{decimal}
+use Rattle.std.specs.Prelude.{◌≡◌, ℕ, ◌-◌, ◌<◌, Bool, true, cond, ◌&&◌, List, ◌++◌, length, take, drop, Some, None, codes, Option, nat_le, slice_index_or}
 use Rattle.backrefs.specs.Backrefs.{literally}
+use Rattle.backrefs.specs.declared.parts.OutsideLine.{OutsideLine}
 use Rattle.backrefs.specs.declared.span.Span.{Span}
 
 -- a part, if there is one, lies in a line of n bytes
@@ -22,3 +24,7 @@ part_text line (Some s) = cond (inside (length line) (Some s)) (Some (literally 
 
 abbrev pub part_of : List ℕ → List (Option Span) → ℕ → Option (List ℕ)
 part_of line parts d = part_text line (slice_index_or parts d None)
+
+-- in words
+abbrev pub outside_text : OutsideLine → List ℕ
+outside_text e = codes "part " ++ decimal e.part ++ codes " does not lie in the line"

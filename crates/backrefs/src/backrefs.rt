@@ -88,6 +88,7 @@ impl Substituter for Placeholders {
     fn substitute(&self, digit: u8, out: &mut Buffer<u8>) -> Result<(), TooLong> {
         match digit {
             0..=9 => out.extend(&placeholder(digit)),
+            // an empty text and no `Ok(())`: the buffer tells its limit only in a call
             _ => out.extend(b""),
         }
     }

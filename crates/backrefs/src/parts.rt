@@ -1,6 +1,6 @@
-ghost use Rattle.std.specs.Prelude.{◌≡◌, ℕ, ◌<◌, true, false, length, None, MatchResult, option_map, slice_index_or};
+ghost use Rattle.std.specs.Prelude.{◌≡◌, ℕ, ◌<◌, true, false, length, None, Some, MatchResult, option_map, slice_index_or};
 ghost use Rattle.backrefs.specs.Backrefs.{literally};
-ghost use Rattle.backrefs.specs.Parts.{AllInside, inside, part_of};
+ghost use Rattle.backrefs.specs.Parts.{AllInside, inside, outside_text, part_of};
 
 use crate::backrefs::{Substituter, write_literally};
 use crate::span::Span;
@@ -23,8 +23,11 @@ pub struct OutsideLine {
 }
 
 impl fmt::Display for OutsideLine {
+    ghost output = { λ outside. Some (outside_text outside) };
+
     fn fmt<W: fmt::Write>(&self, f: &mut fmt::Formatter<W>) -> fmt::Result {
-        write!(f, "part {} does not lie in the line", self.part)
+        let part = self.part;
+        write!(f, "part {part} does not lie in the line")
     }
 }
 

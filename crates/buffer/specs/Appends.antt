@@ -1,5 +1,6 @@
 -- What a call does to a buffer that it writes to.
-use Rattle.std.specs.Prelude.{◌≡◌, ℕ, ◌+◌, ◌<◌, ◌≤◌, List, [], ◌++◌, length, Some, None, Option, Ok, Err, Result}
+use Rattle.std.specs.Fmt.{decimal}
+use Rattle.std.specs.Prelude.{◌≡◌, ℕ, ◌+◌, ◌<◌, ◌≤◌, List, [], ◌++◌, length, Some, None, Option, Ok, Err, codes, Result}
 
 -- `text` stands behind what was there; or there is no room for all of it, and nothing is changed
 abbrev pub Appended : {A V E : Type 0} → List A → List A → Result V E → List A → Type 0
@@ -10,3 +11,7 @@ Appended before text (Err e) after = (65536 < length before + length text) × (a
 abbrev pub WroteNext : {A V E : Type 0} → List A → List A → ℕ → ℕ → Option (Result V E) → List A → List A → Type 0
 WroteNext left left' size size' None before after = (left ≡ []) × (after ≡ before)
 WroteNext {A} left left' size size' (Some written) before after = (size' < size) × (piece : List A) × (left ≡ piece ++ left') × Appended before piece written after
+
+-- in words
+abbrev pub too_long_text : List ℕ
+too_long_text = codes "more than the " ++ decimal 65536 ++ codes " items that a buffer holds"

@@ -2,8 +2,8 @@
 
 #![tactic(auto)]
 
-ghost use Rattle.std.specs.Prelude.{◌≡◌, ℕ, ◌≤◌, List, [], ◌∷◌, length, take, IfOk, vec_len, vec_capacity};
-ghost use Rattle.buffer.specs.Appends.{Appended, WroteNext};
+ghost use Rattle.std.specs.Prelude.{◌≡◌, ℕ, ◌≤◌, List, [], ◌∷◌, length, take, Some, IfOk, vec_len, vec_capacity};
+ghost use Rattle.buffer.specs.Appends.{Appended, WroteNext, too_long_text};
 
 use std::alloc::{AllocError, Global};
 use std::error::Error;
@@ -18,6 +18,8 @@ pub const LIMIT: usize = 65_536;
 pub struct TooLong;
 
 impl fmt::Display for TooLong {
+    ghost output = { λ _. Some too_long_text };
+
     fn fmt<W: fmt::Write>(&self, f: &mut fmt::Formatter<W>) -> fmt::Result {
         write!(f, "more than the {LIMIT} items that a buffer holds")
     }
@@ -68,6 +70,7 @@ impl<T: Copy> Buffer<T> {
         self.items.as_slice()
     }
 
+    /// How many items there are; that they are within the limit is learnt here.
     pub fn len(&self) -> usize
         ensures is { result ≡ length self.now }
         ensures within { result ≤ 65536 }

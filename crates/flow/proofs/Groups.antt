@@ -8,7 +8,7 @@ use Rattle.flow.specs.Scalars.{is_blank}
 use Rattle.flow.specs.Flow.{Key, Value, Items, More, Item, Bound, closing, opening, kind_of, blank, blank_items, blank_more, blank_item, blank_bound, group, first, comma, last, value, entry, colon}
 use Rattle.flow.specs.Flow.{none as no_items}
 use Rattle.flow.specs.Places.{Read}
-use Rattle.flow.specs.Sofar.{ending_here, past_blanks, Behind}
+use Rattle.flow.specs.Steps.{ending_here, past_blanks, Behind}
 use Rattle.flow.proofs.Blanks.{behind_blanks}
 
 -- what stands behind the blanks here

@@ -26,9 +26,6 @@ pub record InsideSoFar (input : List ℕ) (from place : ℕ) (text texts : List 
   pub written : texts ≡ text ++ these
   pub is : (those rest : List ℕ) → Inside (drop place input) rest those → Inside (drop from input) rest (these ++ those)
 
-pub so_far_none : (input : List ℕ) (from : ℕ) (text : List ℕ) → InsideSoFar input from from text text
-so_far_none input from text = record { these = []; written = sym (append-nil text); is = λ those rest i. i }
-
 more_here : (input : List ℕ) (from place end : ℕ) (text mid texts : List ℕ) → InsideSoFar input from place text mid →
     place < length input → (get_or input place 0 ≡ 34 → ⊥) → ReadPiece input place end mid texts → InsideSoFar input from end text texts
 more_here input from place end text mid texts so h n r = record {

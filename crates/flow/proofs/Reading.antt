@@ -7,7 +7,7 @@ use Rattle.flow.specs.declared.cursor.Cursor.{Cursor}
 use Rattle.flow.specs.Flow.{Key, Value, Items, Item, closing, opening, kind_of, key, value}
 use Rattle.flow.specs.Places.{Read}
 use Rattle.flow.specs.Reads.{Reads}
-use Rattle.flow.specs.Sofar.{ending_here, past_blanks, Behind, IsEnd}
+use Rattle.flow.specs.Steps.{ending_here, past_blanks, Behind, IsEnd}
 use Rattle.flow.proofs.Groups.{Begun, begun, goes_on, ended, empty, item_allows_blanks, value_allows_blanks, read_past, entry_read, group_read}
 
 -- by a cursor with the same input

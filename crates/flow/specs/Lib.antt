@@ -3,5 +3,5 @@ pub mod Reasons
 pub mod Scalars
 pub mod Flow
 pub mod Content
-pub mod Sofar
+pub mod Steps
 pub mod Reads

@@ -5,7 +5,7 @@ use Rattle.flow.specs.declared.arrays.Arrays.{Arrays}
 use Rattle.flow.specs.declared.cursor.Cursor.{Cursor}
 use Rattle.flow.specs.Places.{Read}
 
--- from one cursor to a later one of the same input stands what K says, and its nodes and text were added
+-- from one cursor to a later one stands what K says, in the input of the first, and its nodes and text were added
 pub record Reads (K : ℕ → ℕ → List ℕ → List ℕ → List RawNode → List ℕ → Type 0) (from to : Cursor) (before after : Arrays) : Type 0 where
   pub onward : from.place < to.place
   pub read : Read K from.input.now from.place to.place before.nodes.items after.nodes.items before.text.items after.text.items

@@ -3,7 +3,7 @@ ghost use Rattle.tree.specs.Checked.{Checked};
 ghost use Rattle.tree.specs.Meaning.{Means};
 ghost use Rattle.flow.specs.Content.{node_of};
 ghost use Rattle.flow.specs.Places.{NoRoom};
-ghost use Rattle.flow.specs.Sofar.{ending_here};
+ghost use Rattle.flow.specs.Steps.{ending_here};
 
 use crate::content::Content;
 use crate::misread::Reason;

@@ -3,7 +3,7 @@ ghost use Rattle.std.specs.List.{prefix_len};
 ghost use Rattle.flow.specs.declared.misread.Reason.TheVariants.{Unfinished};
 ghost use Rattle.flow.specs.Places.{Told};
 ghost use Rattle.flow.specs.Scalars.{is_blank};
-ghost use Rattle.flow.specs.Sofar.{past_blanks};
+ghost use Rattle.flow.specs.Steps.{past_blanks};
 
 use crate::misread::{Misread, Reason};
 

@@ -5,7 +5,7 @@ ghost use Rattle.flow.specs.Flow.{is_blanks, Document, Item, Items, Key, Value};
 ghost use Rattle.flow.specs.Places.{NoRoom, Startless, Told};
 ghost use Rattle.flow.specs.Reads.{Reads};
 ghost use Rattle.flow.specs.Scalars.{Word, Wordless};
-ghost use Rattle.flow.specs.Sofar.{Behind, IsEnd, past_blanks};
+ghost use Rattle.flow.specs.Steps.{Behind, IsEnd, past_blanks};
 
 use crate::arrays::Arrays;
 use crate::content::{Content, Group};
@@ -30,6 +30,7 @@ fn word(bytes: &[u8]) -> Option<(Content, usize)>
     None
 }
 
+// That the input stays stands in each contract: no type can say that a call keeps one of its fields.
 impl Cursor<'_> {
     /// Reads `true`, `false` or `null`.
     fn read_word(&mut self, arrays: &mut Arrays) -> Result<(), Misread>

@@ -159,6 +159,7 @@ impl Cursor<'_> {
         ensures place { IfErr result (λ m. m.place ≡ self.now.place) }
         ensures refused { IfErr result (λ m. NoRoom m.reason) }
     {
+        // By hand, since of a closure that calls `misread` the check learns neither place nor reason.
         let place = self.place();
         arrays
             .push(content)

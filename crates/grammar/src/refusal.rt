@@ -11,7 +11,7 @@ pub enum Key {
 }
 
 /// Why a tree is refused, whatever set it is offered to. A `usize` is the number of a node, `F` an engine's fault.
-#[derive(Clone, Copy)]
+#[derive(Clone, Copy, PartialEq, Eq, Debug)]
 pub enum Refusal<F> {
     FallbackNotUtf8,
     WrongKind(usize),

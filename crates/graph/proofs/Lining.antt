@@ -1,8 +1,8 @@
 -- Laws of marked places that wait in a list: one place more in the list of marks, one place more that is marked.
 use Rattle.std.proofs.Common.{◌≡◌, ℕ, ◌+◌, ◌<◌, Bool, true, false, cond, not, ◌⊎◌, List, [], ◌∷◌, ◌++◌, length, get_or, take, set, count_by, sym, refl, ap, ◌∙◌, subst, inl, inr, ⊎_elim, arith}
 use borrow.Author.Tests.{clash}
-use Rattle.std.proofs.lemmas.List.{length_push, length-take-le, take_more, get_or_past, get_or_push, get_or_append_left, get_or-set_same, get_or-set_other, set-get_or}
-use Rattle.std.specs.List.{All, Contains}
+use Rattle.std.proofs.lemmas.List.{length_push, length-take-le, take_more, get_or_past, get_or_push, get_or_append_left, get_or-set_same, get_or-set_other}
+use Rattle.std.specs.List.{Contains}
 use Rattle.std.proofs.lemmas.List.Elements.{All-push, All-weaker, Contains-append_left, Contains-push}
 use Rattle.std.proofs.lemmas.List.Sums.{sum_by_push, sum_by-set}
 use Rattle.std.proofs.lemmas.Bool.{cases_eq, cases_lt}
@@ -67,23 +67,12 @@ lined_past_unmarked marks waiting l = record {
       (marked_unpush marks false k h);
 }
 
--- an unmarked place is marked, and joins the list
-pub all_marked_push : (marks : List Bool) (waiting waiting' : List ℕ) (k : ℕ) (b : Bool) → b ≡ true → waiting' ≡ waiting ++ k ∷ [] → k < length marks →
-    All (Marked marks) waiting → All (Marked (set marks k b)) waiting'
-all_marked_push marks waiting waiting' k b is e h all = rw (is, e) (All-push (Marked (set marks k true)) waiting k
-    (All-weaker (Marked marks) (Marked (set marks k true)) (marked_set marks k) waiting all)
-    (marked_set_same marks k h))
-
 pub unmarked_set : (marks : List Bool) (k : ℕ) (b : Bool) → b ≡ true → k < length marks → false ≡ get_or marks k false →
     count_by not (set marks k b) + 1 ≡ count_by not marks
 unmarked_set marks k b is h un =
     let e = sum_by-set (λ (x : Bool). cond (not x) 1 0) marks k true false h in
     let f : ◌≡◌ {A = ℕ} (cond (not (get_or marks k false)) 1 0) 1 = ap (λ (x : Bool). let n : ℕ = cond (not x) 1 0 in n) (sym un) in
     rw is (omega (arith, e, f))
-
--- a marked place is marked again
-pub marked_again : (marks : List Bool) (k : ℕ) (b : Bool) → b ≡ true → true ≡ get_or marks k false → set marks k b ≡ marks
-marked_again marks k b is old = ap (λ (x : Bool). set marks k x) (is ∙ old) ∙ set-get_or marks k false
 
 -- the marks up to a place, and those up to the next
 pub lined_more_marked : (marks : List Bool) (i : ℕ) (waiting : List ℕ) {waiting' : List ℕ} → i < length marks → get_or marks i false ≡ true →

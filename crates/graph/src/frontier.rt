@@ -42,6 +42,7 @@ impl<'a> Frontier<'a> {
         ensures waiting { self.new.waiting.now.items ≡ (if get_or self.old.marks.now place false then self.old.waiting.now.items else self.old.waiting.now.items ++ place ∷ []) }
         ensures lent { SameLent self.old self.new }
     {
+        // Borrowed by name, since the check takes no element within a struct that has a ghost field.
         let marks = &mut *self.marks;
         if !mem::replace(&mut marks[place], true) {
             self.waiting.push_reserved(place);

@@ -205,8 +205,11 @@ impl Pieces<usize> for GroupNumbers<'_> {
             return Some(out.push(whole));
         }
         let mark = read_mark(&mut self.parser)?;
-        let found = self.numbering.meet(mark);
-        Some(out.extend(found.as_slice()))
+        // A `match`: `extend(found.as_slice())` would copy nothing at most marks.
+        Some(match self.numbering.meet(mark) {
+            Some(number) => out.push(number),
+            None => out.extend(&[]),
+        })
     }
 }
 

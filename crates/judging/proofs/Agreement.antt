@@ -11,7 +11,7 @@ use Rattle.judging.specs.Entries.{SoundBelow}
 use Rattle.judging.specs.Judging.{There, number_of}
 use Rattle.judging.specs.Ranges.{lies, text_at, nowhere}
 use Rattle.judging.specs.Recording.{entries_for, only_taken, Agreed, TakenDown, ThereBelow}
-use Rattle.judging.specs.Records.{recorded, recorded_number, fault_number, fault_of, is_text}
+use Rattle.judging.specs.Records.{recorded, recorded_number, fault_after, fault_of, is_text}
 
 -- the number of the record's verdict on a text
 abbrev numbers : List ℕ → List Entry → List ℕ → ℕ
@@ -19,7 +19,7 @@ numbers whole es t = number_of recorded_number (recorded whole es t)
 
 -- what an entry says is read back
 read_back : (n : ℕ) → n ≤ 255 → number_of recorded_number (fault_of n) ≡ n
-unfolding fault_number
+unfolding fault_after
 read_back zero h = refl
 read_back (suc n) h = cond-false (ltb 255 (suc n)) 255 (suc n) (le-ltb 255 (suc n) h)
 
@@ -39,7 +39,7 @@ Told number whole texts t = (numbers whole (entries_for number whole texts) t �
     ⊎ ((numbers whole (entries_for number whole texts) t ≡ 255) × ((k : ℕ) → k < length texts → is_text whole t (get_or texts k nowhere) ≡ false))
 
 told : (number : List ℕ → ℕ) → ((t : List ℕ) → number t ≤ 255) → (whole : List ℕ) (texts : List TextRange) (t : List ℕ) → Told number whole texts t
-unfolding fault_number
+unfolding fault_after
 told number bound whole [] t = inr (refl, λ k h. absurd (omega arith))
 told number bound whole (r ∷ texts) t = go (is_text whole t r) refl (cases_eq n 255) (told number bound whole texts t) where
   n : ℕ

@@ -21,18 +21,18 @@ recorded_number f = cond (nat_lt 255 (non_zero_u8_get f.number)) 255 (non_zero_u
 abbrev pub recorded_text : RecordedFault → List ℕ
 recorded_text f = codes "the fault of number " ++ decimal (non_zero_u8_get f.number)
 
--- the fault of a number, which is not 0
-unfoldable pub fault_number : ℕ → RecordedFault
-fault_number n = record { number = record { value = suc n; ok = zero-lt-suc n } }
+-- the fault of the number n + 1, so that it is none of the number 0
+unfoldable pub fault_after : ℕ → RecordedFault
+fault_after n = record { number = record { value = suc n; ok = zero-lt-suc n } }
 
--- the fault of a text that is not recorded
+-- the fault of a text that is not recorded: its number is 255
 abbrev pub unrecorded : RecordedFault
-unrecorded = fault_number 254
+unrecorded = fault_after 254
 
 -- what an entry's number says: 0 that the text is fine
 abbrev pub fault_of : ℕ → Option RecordedFault
 fault_of zero = None
-fault_of (suc n) = Some (fault_number n)
+fault_of (suc n) = Some (fault_after n)
 
 -- this text stands in the whole at the range
 abbrev pub is_text : List ℕ → List ℕ → TextRange → Bool

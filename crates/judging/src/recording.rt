@@ -47,6 +47,7 @@ fn take_down(text: TextRange, verdict: u8, entries: &mut Buffer<Entry>) -> Resul
     ensures { Appended entries.old (entry_for verdict text) result entries.new }
 {
     let entry = (verdict != UNRECORDED).then_some(Entry { text, verdict });
+    // also where there is none: the buffer tells its limit only in a call
     entries.extend(entry.as_slice())
 }
 

@@ -1,5 +1,5 @@
 -- What the program says of one pattern.
-use Rattle.std.specs.Prelude.{◌≡◌, ℕ, ◌<◌, true, false, ◌⊎◌, List, length, Ok, Err, Result, IsUtf8}
+use Rattle.std.specs.Prelude.{◌≡◌, ℕ, ◌<◌, true, false, ◌⊎◌, List, length, Ok, Err, codes, Result, IsUtf8}
 use Rattle.backrefs.specs.Backrefs.{has_backref}
 use Rattle.groups.specs.Captures.{consuming_captures}
 use Rattle.tokens.specs.Posix.{with_properties}
@@ -17,3 +17,8 @@ Scanned bs (Ok features) newlines no_newlines captures =
     IsUtf8 bs × (newlines ≡ rewritten true bs) × (no_newlines ≡ rewritten false bs) × (captures ≡ consuming_captures bs) × (features.backrefs ≡ has_backref bs)
 Scanned bs (Err TooLong) newlines no_newlines captures = IsUtf8 bs × Over bs
 Scanned bs (Err NotUtf8) newlines no_newlines captures = IsUtf8 bs → ⊥
+
+-- in words
+abbrev pub refusal_text : Refusal → List ℕ
+refusal_text TooLong = codes "too long"
+refusal_text NotUtf8 = codes "not UTF-8"

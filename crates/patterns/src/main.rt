@@ -8,11 +8,6 @@ use scan::{Features, PatternScan, Refusal};
 use std::io;
 use std::io::{BufRead, BufReader, BufWriter, Write};
 
-/// A line without the newline that ends it.
-fn without_newline(line: &[u8]) -> &[u8] {
-    line.strip_suffix(b"\n").unwrap_or(line)
-}
-
 fn write_captures<W: Write>(captures: &[usize], out: &mut W) -> io::Result<()> {
     if let [first, others @ ..] = captures {
         write!(out, "{first}")?;
@@ -48,16 +43,11 @@ fn write_fields<W: Write>(
 fn run(rt: &HostRuntime) -> anyhow::Result<()> {
     let heap = rt.alloc();
     let mut scan = PatternScan::new(heap)?;
-    let mut input = BufReader::new(heap, rt.stdin())?;
+    let input = BufReader::new(heap, rt.stdin())?;
     let mut output = BufWriter::new(heap, rt.stdout())?;
-    let mut line = Vec::new(heap);
-    // The standard library's lines are UTF-8, which these need not be.
-    for _ in 0..u64::MAX {
-        line.clear();
-        if input.read_until(b'\n', &mut line)? == 0 {
-            break;
-        }
-        let pattern = without_newline(line.as_slice());
+    for line in input.split(heap, b'\n') {
+        let line = line?;
+        let pattern = line.as_slice();
         let answer = scan.read(pattern);
         write_fields(pattern, answer, &scan, &mut output)?;
     }

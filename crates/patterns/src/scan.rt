@@ -1,5 +1,5 @@
-ghost use Rattle.std.specs.Prelude.{◌≡◌, [], IfOk};
-ghost use Rattle.patterns.specs.Scans.{Scanned};
+ghost use Rattle.std.specs.Prelude.{◌≡◌, [], Some, IfOk};
+ghost use Rattle.patterns.specs.Scans.{Scanned, refusal_text};
 ghost use Rattle.patterns.specs.declared.scan.Refusal.TheVariants as refusals;
 
 use scanner::{Buffer, Rewriter, TooLong, get_consuming_capture_indexes, has_backrefs};
@@ -17,6 +17,8 @@ pub enum Refusal {
 }
 
 impl fmt::Display for Refusal {
+    ghost output = { λ refusal. Some (refusal_text refusal) };
+
     fn fmt<W: fmt::Write>(&self, f: &mut fmt::Formatter<W>) -> fmt::Result {
         f.write_str(match self {
             Refusal::TooLong => "too long",

@@ -8,7 +8,7 @@ pub use backrefs::{
     MatchedParts, OutsideLine, Placeholders, Span, Substituter, has_backrefs,
     substitute_backrefs_in_regex,
 };
-pub use buffer::{Buffer, LIMIT, TooLong};
+pub use buffer::{Buffer, LIMIT, Pieces, TooLong};
 pub use groups::get_consuming_capture_indexes;
 pub use newlines::{regex_for_newlines, regex_for_no_newlines};
 pub use rewriter::Rewriter;

@@ -1,7 +1,7 @@
 ghost use Rattle.std.specs.Prelude.{◌≡◌, ◌+◌, ◌^◌, ◌<◌, length, Some, None};
 ghost use Rattle.buffer.specs.Appends.{Appended};
 ghost use Rattle.tokens.specs.Starts.{starts};
-ghost use Rattle.tokens.specs.Posix.{WroteFrom, bracket_at, bracket_here, bracket_of, depth_in, first_of, left_from, property_of, with_properties};
+ghost use Rattle.tokens.specs.Posix.{WroteFrom, bracket_at, bracket_here, bracket_of, depth_in, left_from, property_of, with_properties};
 
 use crate::class::ClassWalker;
 use crate::parser::{Parser, write_token};
@@ -47,18 +47,14 @@ impl PosixClass {
         text.starts_with(self.bracket())
     }
 
-    /// The first of the brackets that stands at the front of `text`.
-    fn first_of(classes: &[PosixClass], text: &[u8]) -> Option<PosixClass>
-        ensures { result ≡ first_of classes.now text.now }
-    {
-        classes.iter().copied().find(|class| class.stands_at(text))
-    }
-
     /// The bracket that stands at the front of `text`.
     fn at_front(text: &[u8]) -> Option<PosixClass>
         ensures { result ≡ bracket_at text.now }
     {
-        PosixClass::first_of(&PosixClass::ALL, text)
+        PosixClass::ALL
+            .iter()
+            .copied()
+            .find(|class| class.stands_at(text))
     }
 
     /// The Unicode properties that match what the bracket is to match.

@@ -57,6 +57,7 @@ impl<'a> Sound<'a> {
         let Some(below) = deep.checked_sub(1) else {
             return false;
         };
+        // A loop, since `all` would want clauses at its closure for the recursion.
         for child in self.children(i) {
             if !self.nests(child, below) {
                 return false;

@@ -1,4 +1,4 @@
--- What a reader in the middle of a document knows.
+-- Where the small steps of the reader lead: over blanks, over a byte, to the end of a list or map.
 use Rattle.std.specs.Prelude.{◌≡◌, ◌≢◌, ℕ, ◌+◌, ◌<◌, Bool, true, false, List, length, drop, slice_index, slice_set}
 use Rattle.std.specs.List.{prefix_len}
 use Rattle.tree_rule.specs.declared.node.RawNode.{RawNode}
