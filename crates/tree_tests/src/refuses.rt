@@ -63,7 +63,7 @@ fn sizes(rt: HostRuntime) -> Result<(), Fail> {
         b"",
         Refusal::Root,
     )?;
-    faulty(
+    refused(
         &rt,
         &[node(Kind::List, 1, 0), node(Kind::Other, 2, 0)],
         b"",
@@ -73,7 +73,7 @@ fn sizes(rt: HostRuntime) -> Result<(), Fail> {
 
 #[test]
 fn own_numbers(rt: HostRuntime) -> Result<(), Fail> {
-    refused(&rt, &[node(6u32, 1, 0)], b"", 0, Fault::UnknownKind)?;
+    faulty(&rt, &[node(6u32, 1, 0)], b"", 0, Fault::UnknownKind)?;
     faulty(
         &rt,
         &[node(4_294_967_295u32, 1, 0)],
