@@ -1,4 +1,4 @@
-ghost use Rattle.std.specs.Prelude.{◌≡◌, ◌<◌, length, Decides, MatchResult};
+ghost use Rattle.std.specs.Prelude.{◌≡◌, ◌<◌, length, Decides, IsUtf8, MatchResult};
 ghost use Rattle.tree_rule.specs.Nodes.{at};
 ghost use Rattle.tree_rule.specs.Refusals.{Breaks, Each, Refuses, Sized};
 ghost use Rattle.tree_rule.specs.Rule.{Right, Truth};
@@ -19,6 +19,13 @@ fn is_truth(node: RawNode) -> bool
     ensures { Decides result (Truth node) }
 {
     !node.is(Kind::Boolean) || node.number == 0 || node.number == 1
+}
+
+/// The bytes of a string are UTF-8.
+fn is_spelled(bytes: &[u8]) -> bool
+    ensures { Decides result (IsUtf8 bytes.now) }
+{
+    std::str::from_utf8(bytes).is_ok()
 }
 
 impl<'a> Candidate<'a> {
@@ -58,7 +65,9 @@ impl<'a> Candidate<'a> {
         }
         if kind == Kind::String {
             let bytes = node.bytes(self.text).ok_or(Fault::OutsideText)?;
-            std::str::from_utf8(bytes).map_err(|_| Fault::NotUtf8)?;
+            if !is_spelled(bytes) {
+                return Err(Fault::NotUtf8);
+            }
         }
         Ok(())
     }

@@ -1,23 +1,33 @@
-ghost use Rattle.std.specs.Prelude.{◌<◌, length, Decides};
+ghost use Rattle.std.specs.Prelude.{◌≡◌, ◌<◌, length, Decides};
 ghost use Rattle.std.specs.List.{AllByRecursion};
-ghost use Rattle.tree_rule.specs.Rule.{Apart, Equal};
+ghost use Rattle.tree_rule.specs.Nodes.{bytes};
+ghost use Rattle.tree_rule.specs.Rule.{Apart, Equal, Lies};
 
-use crate::node::Kind;
+use crate::node::{Kind, RawNode};
 use crate::sound::Sound;
 
-impl Sound<'_> {
+impl<'a> Sound<'a> {
+    /// The bytes of a string, which is known to lie in the text: each key of a map is asked for as often as there are others.
+    fn bytes_of(&self, node: RawNode) -> &'a [u8]
+        requires is_string { node.kind ≡ 3 }
+        requires lies { Lies node self.now.text.now }
+        ensures { result.now ≡ bytes node self.now.text.now }
+    {
+        let start = node.place as usize;
+        &self.text[start..start + node.length as usize]
+    }
+
     /// Both keys are strings, or both integers, and they are equal.
     fn is_equal(&self, key: usize, other: usize) -> bool
         requires key_in_bounds { key < length self.now.nodes.now }
         requires other_in_bounds { other < length self.now.nodes.now }
         ensures { Decides result (Equal self.now.nodes.now self.now.text.now key other) }
     {
-        let key = self.nodes[key];
-        let other = self.nodes[other];
-        match (key.bytes(self.text), other.bytes(self.text)) {
-            (Some(a), Some(b)) => a == b,
-            _ => key.is(Kind::Integer) && other.is(Kind::Integer) && key.number == other.number,
+        let (a, b) = (self.nodes[key], self.nodes[other]);
+        if a.is(Kind::String) && b.is(Kind::String) {
+            return self.bytes_of(a) == self.bytes_of(b);
         }
+        a.is(Kind::Integer) && b.is(Kind::Integer) && a.number == b.number
     }
 
     /// No later key equals this one.
