@@ -113,10 +113,10 @@ pub add_none : (n : ℕ) (E : ℕ → Option (ℕ × ℕ)) (j : ℕ) (heads next
 add_none n E j heads nexts nexts' c e pushed = rw pushed (chained_past_none n E j heads nexts c (sym e))
 
 -- what is pushed for a pair that counts: the head of its place, as it was
-pub add_some : (n : ℕ) (E : ℕ → Option (ℕ × ℕ)) (j : ℕ) (heads nexts nexts' : List (Option ℕ)) (a b : ℕ) (x y : Option ℕ) → Chained n E j heads nexts →
-    Some (a, b) ≡ in_range n (E j) → x ≡ get_or heads a x → y ≡ Some j → nexts' ≡ nexts ++ x ∷ [] → Chained n E (j + 1) (set heads a y) nexts'
-add_some n E j heads nexts nexts' a b x y c e read is pushed =
+pub add_some : (n : ℕ) (E : ℕ → Option (ℕ × ℕ)) (j : ℕ) (heads nexts nexts' : List (Option ℕ)) (a b : ℕ) (x y before : Option ℕ) → Chained n E j heads nexts →
+    Some (a, b) ≡ in_range n (E j) → x ≡ get_or heads a x → before ≡ x → y ≡ Some j → nexts' ≡ nexts ++ before ∷ [] → Chained n E (j + 1) (set heads a y) nexts'
+add_some n E j heads nexts nexts' a b x y before c e read was is pushed =
     let inside : a < n = (in_range_is n (E j) a b (sym e)).0 in
     let filled : nexts' ≡ nexts ++ get_or heads a None ∷ [] =
-    pushed ∙ ap (λ (o : Option ℕ). nexts ++ o ∷ []) (head_read n E j heads nexts a x c inside read) in
+    pushed ∙ ap (λ (o : Option ℕ). nexts ++ o ∷ []) (was ∙ head_read n E j heads nexts a x c inside read) in
     rw (is, filled) (chained_past_some n E j heads nexts a b c (sym e) inside)

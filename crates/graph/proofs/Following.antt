@@ -120,38 +120,38 @@ steps_targets n m E (suc j) i k s h = ⊎_elim
       go false q = q
 
 -- some of the pairs from i have been followed, and the targets of the others are left
-pub record Followed (n m : ℕ) (E : ℕ → Option (ℕ × ℕ)) (i : ℕ) (marks₀ : List Bool) (waiting₀ : List ℕ) (marks : List Bool) (waiting left : List ℕ) : Type 0 where
-  pub grows : Grown n m E marks₀ waiting₀ marks waiting
+pub record Followed (n m : ℕ) (E : ℕ → Option (ℕ × ℕ)) (i : ℕ) (marks₀ : List Bool) (queue₀ : List ℕ) (marks : List Bool) (queue left : List ℕ) : Type 0 where
+  pub grows : Grown n m E marks₀ queue₀ marks queue
   pub steps : (k : ℕ) → Contains left k → Step n m E i k
   pub leads : (k : ℕ) → Step n m E i k → Marked marks k ⊎ Contains left k
 
-pub followed_none : (n m : ℕ) (E : ℕ → Option (ℕ × ℕ)) (i : ℕ) (marks : List Bool) (waiting left : List ℕ) → left ≡ targets n E m i →
-    Followed n m E i marks waiting marks waiting left
-followed_none n m E i marks waiting left e = record {
-  grows = grown_same n m E marks waiting;
+pub followed_none : (n m : ℕ) (E : ℕ → Option (ℕ × ℕ)) (i : ℕ) (marks : List Bool) (queue left : List ℕ) → left ≡ targets n E m i →
+    Followed n m E i marks queue marks queue left
+followed_none n m E i marks queue left e = record {
+  grows = grown_same n m E marks queue;
   steps = λ k q. targets_steps n m E m i k (omega arith) (subst (λ (xs : List ℕ). Contains xs k) e q);
   leads = λ k s. inr (subst (λ (xs : List ℕ). Contains xs k) (sym e) (steps_targets n m E m i k s s.counted));
 }
 
-followed_step : (n m : ℕ) (E : ℕ → Option (ℕ × ℕ)) (i : ℕ) (marks₀ : List Bool) (waiting₀ : List ℕ) (marks : List Bool) (waiting left : List ℕ) (k : ℕ) (left' : List ℕ) →
-    Followed n m E i marks₀ waiting₀ marks waiting left → left ≡ k ∷ left' → Step n m E i k
-followed_step n m E i marks₀ waiting₀ marks waiting left k left' f e = f.steps k (subst (λ (xs : List ℕ). Contains xs k) (sym e) (Contains-get_or (k ∷ left') 0 0 (omega arith)))
+followed_step : (n m : ℕ) (E : ℕ → Option (ℕ × ℕ)) (i : ℕ) (marks₀ : List Bool) (queue₀ : List ℕ) (marks : List Bool) (queue left : List ℕ) (k : ℕ) (left' : List ℕ) →
+    Followed n m E i marks₀ queue₀ marks queue left → left ≡ k ∷ left' → Step n m E i k
+followed_step n m E i marks₀ queue₀ marks queue left k left' f e = f.steps k (subst (λ (xs : List ℕ). Contains xs k) (sym e) (Contains-get_or (k ∷ left') 0 0 (omega arith)))
 
 -- the next of them is there
-pub followed_inside : (n m : ℕ) (E : ℕ → Option (ℕ × ℕ)) (i : ℕ) (marks₀ : List Bool) (waiting₀ : List ℕ) (marks : List Bool) (waiting left : List ℕ) (k : ℕ) (left' : List ℕ) →
-    length marks₀ ≡ n → Followed n m E i marks₀ waiting₀ marks waiting left → left ≡ k ∷ left' → k < length marks
-followed_inside n m E i marks₀ waiting₀ marks waiting left k left' long f e =
-    let step = followed_step n m E i marks₀ waiting₀ marks waiting left k left' f e in
+pub followed_inside : (n m : ℕ) (E : ℕ → Option (ℕ × ℕ)) (i : ℕ) (marks₀ : List Bool) (queue₀ : List ℕ) (marks : List Bool) (queue left : List ℕ) (k : ℕ) (left' : List ℕ) →
+    length marks₀ ≡ n → Followed n m E i marks₀ queue₀ marks queue left → left ≡ k ∷ left' → k < length marks
+followed_inside n m E i marks₀ queue₀ marks queue left k left' long f e =
+    let step = followed_step n m E i marks₀ queue₀ marks queue left k left' f e in
     omega (arith, step.to_inside, f.grows.long)
 
-pub followed_more : (n m : ℕ) (E : ℕ → Option (ℕ × ℕ)) (i : ℕ) (marks₀ : List Bool) (waiting₀ : List ℕ) (marks : List Bool) (waiting left : List ℕ) (k : ℕ) (left' : List ℕ) (marks' : List Bool) (waiting' : List ℕ) →
-    Followed n m E i marks₀ waiting₀ marks waiting left → left ≡ k ∷ left' → Marked marks₀ i → length marks₀ ≡ n →
-    marks' ≡ set marks k true → waiting' ≡ cond (get_or marks k false) waiting (waiting ++ k ∷ []) →
-    Followed n m E i marks₀ waiting₀ marks' waiting' left'
-followed_more n m E i marks₀ waiting₀ marks waiting left k left' marks' waiting' f is from long e x =
-    let inside = followed_inside n m E i marks₀ waiting₀ marks waiting left k left' long f is in
-    let step = followed_step n m E i marks₀ waiting₀ marks waiting left k left' f is in
-    let grown = grown_more n m E marks₀ waiting₀ marks waiting i k marks' waiting' f.grows step from inside e x in
+pub followed_more : (n m : ℕ) (E : ℕ → Option (ℕ × ℕ)) (i : ℕ) (marks₀ : List Bool) (queue₀ : List ℕ) (marks : List Bool) (queue left : List ℕ) (k : ℕ) (left' : List ℕ) (marks' : List Bool) (queue' : List ℕ) →
+    Followed n m E i marks₀ queue₀ marks queue left → left ≡ k ∷ left' → Marked marks₀ i → length marks₀ ≡ n →
+    marks' ≡ set marks k true → queue' ≡ cond (get_or marks k false) queue (queue ++ k ∷ []) →
+    Followed n m E i marks₀ queue₀ marks' queue' left'
+followed_more n m E i marks₀ queue₀ marks queue left k left' marks' queue' f is from long e x =
+    let inside = followed_inside n m E i marks₀ queue₀ marks queue left k left' long f is in
+    let step = followed_step n m E i marks₀ queue₀ marks queue left k left' f is in
+    let grown = grown_more n m E marks₀ queue₀ marks queue i k marks' queue' f.grows step from inside e x in
     record {
       grows = grown.0;
       steps = λ j q. f.steps j (subst (λ (xs : List ℕ). Contains xs j) (sym is) (Contains-append_right (k ∷ []) left' j q));

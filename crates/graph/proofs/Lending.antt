@@ -4,7 +4,7 @@ use Rattle.graph.specs.Lent.{SameLent}
 use Rattle.graph.specs.declared.frontier.Frontier.{Frontier}
 
 pub lent_same : (a : Frontier) → SameLent a a
-lent_same a = record { marks = refl; waiting = refl; room = refl }
+lent_same a = record { marks = refl; queue = refl; room = refl }
 
 pub lent_on : (a b c : Frontier) → SameLent a b → SameLent b c → SameLent a c
-lent_on a b c s t = record { marks = t.marks ∙ s.marks; waiting = t.waiting ∙ s.waiting; room = t.room ∙ s.room }
+lent_on a b c s t = record { marks = t.marks ∙ s.marks; queue = t.queue ∙ s.queue; room = t.room ∙ s.room }

@@ -43,24 +43,24 @@ marked_unpush marks b k h = ⊎_elim
     inl (sym e, sym (get_or_push marks b false k e) ∙ h))
     (cases_lt k (length marks))
 
-pub lined_past_marked : (marks : List Bool) (waiting : List ℕ) → Lined marks waiting → Lined (marks ++ true ∷ []) (waiting ++ length marks ∷ [])
-lined_past_marked marks waiting l = record {
+pub lined_past_marked : (marks : List Bool) (queue : List ℕ) → Lined marks queue → Lined (marks ++ true ∷ []) (queue ++ length marks ∷ [])
+lined_past_marked marks queue l = record {
   counted = let e = sum_by_push (λ (x : Bool). cond (not x) 1 0) marks true in
-      omega (arith, e, length_push waiting (length marks), length_push marks true, l.counted);
-  marked = All-push (Marked (marks ++ true ∷ [])) waiting (length marks)
-      (All-weaker (Marked marks) (Marked (marks ++ true ∷ [])) (marked_push marks true) waiting l.marked)
+      omega (arith, e, length_push queue (length marks), length_push marks true, l.counted);
+  marked = All-push (Marked (marks ++ true ∷ [])) queue (length marks)
+      (All-weaker (Marked marks) (Marked (marks ++ true ∷ [])) (marked_push marks true) queue l.marked)
       (get_or_push marks true false (length marks) refl);
   waits = λ k h. ⊎_elim
-      (λ e. subst (Contains (waiting ++ length marks ∷ [])) (sym e.0) (Contains-push waiting (length marks)))
-      (λ old. Contains-append_left waiting (length marks ∷ []) k (l.waits k old))
+      (λ e. subst (Contains (queue ++ length marks ∷ [])) (sym e.0) (Contains-push queue (length marks)))
+      (λ old. Contains-append_left queue (length marks ∷ []) k (l.waits k old))
       (marked_unpush marks true k h);
 }
 
-pub lined_past_unmarked : (marks : List Bool) (waiting : List ℕ) → Lined marks waiting → Lined (marks ++ false ∷ []) waiting
-lined_past_unmarked marks waiting l = record {
+pub lined_past_unmarked : (marks : List Bool) (queue : List ℕ) → Lined marks queue → Lined (marks ++ false ∷ []) queue
+lined_past_unmarked marks queue l = record {
   counted = let e = sum_by_push (λ (x : Bool). cond (not x) 1 0) marks false in
       omega (arith, e, length_push marks false, l.counted);
-  marked = All-weaker (Marked marks) (Marked (marks ++ false ∷ [])) (marked_push marks false) waiting l.marked;
+  marked = All-weaker (Marked marks) (Marked (marks ++ false ∷ [])) (marked_push marks false) queue l.marked;
   waits = λ k h. ⊎_elim
       (λ e. absurd (clash e.1))
       (λ old. l.waits k old)
@@ -75,16 +75,16 @@ unmarked_set marks k b is h un =
     rw is (omega (arith, e, f))
 
 -- the marks up to a place, and those up to the next
-pub lined_more_marked : (marks : List Bool) (i : ℕ) (waiting : List ℕ) {waiting' : List ℕ} → i < length marks → get_or marks i false ≡ true →
-    waiting' ≡ waiting ++ i ∷ [] → Lined (take i marks) waiting → Lined (take (i + 1) marks) waiting'
-lined_more_marked marks i waiting {waiting' = waiting'} h yes' e l =
+pub lined_more_marked : (marks : List Bool) (i : ℕ) (queue : List ℕ) {queue' : List ℕ} → i < length marks → get_or marks i false ≡ true →
+    queue' ≡ queue ++ i ∷ [] → Lined (take i marks) queue → Lined (take (i + 1) marks) queue'
+lined_more_marked marks i queue {queue' = queue'} h yes' e l =
     let t : take (i + 1) marks ≡ take i marks ++ true ∷ [] = take_more marks i false h ∙ ap (λ (b : Bool). take i marks ++ b ∷ []) yes' in
     let u : length (take i marks) ≡ i = length-take-le i marks (omega arith) in
-    let v : waiting' ≡ waiting ++ length (take i marks) ∷ [] = e ∙ ap (λ (x : ℕ). waiting ++ x ∷ []) (sym u) in
-    rw (t, v) (lined_past_marked (take i marks) waiting l)
+    let v : queue' ≡ queue ++ length (take i marks) ∷ [] = e ∙ ap (λ (x : ℕ). queue ++ x ∷ []) (sym u) in
+    rw (t, v) (lined_past_marked (take i marks) queue l)
 
-pub lined_more_unmarked : (marks : List Bool) (i : ℕ) (waiting : List ℕ) {waiting' : List ℕ} → i < length marks → get_or marks i false ≡ false →
-    waiting' ≡ waiting → Lined (take i marks) waiting → Lined (take (i + 1) marks) waiting'
-lined_more_unmarked marks i waiting h un e l =
+pub lined_more_unmarked : (marks : List Bool) (i : ℕ) (queue : List ℕ) {queue' : List ℕ} → i < length marks → get_or marks i false ≡ false →
+    queue' ≡ queue → Lined (take i marks) queue → Lined (take (i + 1) marks) queue'
+lined_more_unmarked marks i queue h un e l =
     let t : take (i + 1) marks ≡ take i marks ++ false ∷ [] = take_more marks i false h ∙ ap (λ (b : Bool). take i marks ++ b ∷ []) un in
-    rw (t, e) (lined_past_unmarked (take i marks) waiting l)
+    rw (t, e) (lined_past_unmarked (take i marks) queue l)

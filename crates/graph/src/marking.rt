@@ -16,8 +16,9 @@ use std::fmt;
 fn spread<G: Graph>(pairs: &PairsByPlace<G>, place: usize, front: &mut Frontier)
     requires marked { Marked front.old.marks.now place }
     requires long { length front.old.marks.now ≡ G.place_count pairs.now.graph.now }
-    ensures grows { Grown (G.place_count pairs.now.graph.now) (G.pair_count pairs.now.graph.now) (G.pair_at pairs.now.graph.now) front.old.marks.now front.old.waiting.now.items front.new.marks.now front.new.waiting.now.items }
+    ensures grows { Grown (G.place_count pairs.now.graph.now) (G.pair_count pairs.now.graph.now) (G.pair_at pairs.now.graph.now) front.old.marks.now front.old.queue.now.items front.new.marks.now front.new.queue.now.items }
     ensures leads { Spread (G.place_count pairs.now.graph.now) (G.pair_count pairs.now.graph.now) (G.pair_at pairs.now.graph.now) front.new.marks.now place }
+    ensures next { front.new.next ≡ front.old.next }
     ensures lent { SameLent front.old front.new }
 {
     for to in pairs.targets(place) {
@@ -28,7 +29,8 @@ fn spread<G: Graph>(pairs: &PairsByPlace<G>, place: usize, front: &mut Frontier)
 /// Lets every waiting place spread its mark, and those that wait because of that.
 fn spread_all<G: Graph>(pairs: &PairsByPlace<G>, front: &mut Frontier)
     requires long { length front.old.marks.now ≡ G.place_count pairs.now.graph.now }
-    requires lined { Lined front.old.marks.now front.old.waiting.now.items }
+    requires lined { Lined front.old.marks.now front.old.queue.now.items }
+    requires next { front.old.next ≡ 0 }
     ensures marking { Marking (G.place_count pairs.now.graph.now) (G.pair_count pairs.now.graph.now) (G.pair_at pairs.now.graph.now) front.old.marks.now front.new.marks.now }
     ensures lent { SameLent front.old front.new }
 {
@@ -82,7 +84,7 @@ pub fn mark<G: Graph>(graph: &G, marks: &mut [bool], work: &mut Workspace) -> Re
         graph,
         chains: &work.chains,
     };
-    let mut front = Frontier::new(marks, &mut work.waiting);
+    let mut front = Frontier::new(marks, &mut work.queue);
     spread_all(&pairs, &mut front);
     Ok(())
 }

@@ -14,11 +14,11 @@ pub struct Workspace {
     /// how many pairs a graph may have
     pub(crate) pairs: usize,
     pub(crate) chains: Chains,
-    /// the marked places whose pairs have not been followed yet
-    pub(crate) waiting: Vec<usize>,
+    /// the marked places, in the order in which they spread
+    pub(crate) queue: Vec<usize>,
     ghost heads_fit: { places ≤ vec_capacity chains.heads },
     ghost nexts_fit: { pairs ≤ vec_capacity chains.nexts },
-    ghost waiting_fits: { places ≤ vec_capacity waiting },
+    ghost queue_fits: { places ≤ vec_capacity queue },
 }
 
 impl Workspace {
@@ -28,12 +28,12 @@ impl Workspace {
     {
         let heads = Vec::with_capacity(heap, places)?;
         let nexts = Vec::with_capacity(heap, pairs)?;
-        let waiting = Vec::with_capacity(heap, places)?;
+        let queue = Vec::with_capacity(heap, places)?;
         Ok(Workspace {
             places,
             pairs,
             chains: Chains { heads, nexts },
-            waiting,
+            queue,
         })
     }
 

@@ -1,4 +1,4 @@
-use Rattle.std.proofs.Common.{rules}
+use Rattle.std.proofs.Common.{rules, refl, ◌∙◌}
 use Rattle.graph.proofs.Following.{followed_inside, followed_more, followed_none}
 use Rattle.graph.proofs.Lending.{lent_on, lent_same}
 use Rattle.graph.proofs.marking.spread.Goals as goal
@@ -8,6 +8,7 @@ loop-to-init g c = record {
   can = search rules;
   ends = search rules;
   followed = followed_none _ _ _ c.args.place _ _ _ (rw c.into_iter-to-iterator.ensures.into_iter_gives c.targets-to-items.ensures);
+  next = refl;
   lent = lent_same _;
 }
 
@@ -19,6 +20,7 @@ loop-to-preserved g c = record {
   can = search rules;
   ends = search rules;
   followed = followed_more _ _ _ c.args.place _ _ _ _ _ c.in-Some.to _ _ _ c.loop-to.invariant.followed c.in-Some.ensures.steps c.requires.marked c.requires.long
-      c.mark.ensures.marks c.mark.ensures.waiting;
+      c.mark.ensures.marks c.mark.ensures.queue;
+  next = c.mark.ensures.next ∙ c.loop-to.invariant.next;
   lent = lent_on _ _ _ c.loop-to.invariant.lent c.mark.ensures.lent;
 }

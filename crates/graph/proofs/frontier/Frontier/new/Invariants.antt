@@ -5,6 +5,6 @@ use Rattle.graph.proofs.frontier.Frontier.new.Given as goal
 -- the marked places so far wait
 abbrev pub invariant-loop-place : goal.invariant-loop-place
 invariant-loop-place l = record {
-  lined : Lined (take l.place l.marked-items) (vec_items l.waiting);
-  room : vec_capacity l.waiting ≡ vec_capacity l.initial.waiting;
+  lined : Lined (take l.place l.marked-items) (vec_items l.queue);
+  room : vec_capacity l.queue ≡ vec_capacity l.initial.queue;
 }
