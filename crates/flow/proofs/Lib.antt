@@ -4,4 +4,5 @@ pub mod Numbers
 pub mod Pieces
 pub mod Pushed
 pub mod Reading
+pub mod Stopping
 pub mod Words

@@ -5,3 +5,4 @@ pub mod Flow
 pub mod Content
 pub mod Steps
 pub mod Reads
+pub mod Stops

@@ -4,6 +4,7 @@ ghost use Rattle.flow.specs.declared.misread.Reason.TheVariants.{Unfinished};
 ghost use Rattle.flow.specs.Places.{Told};
 ghost use Rattle.flow.specs.Scalars.{is_blank};
 ghost use Rattle.flow.specs.Steps.{past_blanks};
+ghost use Rattle.flow.specs.Stops.{Lacks};
 
 use crate::misread::{Misread, Reason};
 
@@ -79,6 +80,7 @@ impl<'a> Cursor<'a> {
         ensures byte { IfOk result (λ b. (self.new.place < length self.new.input.now) × (slice_index self.new.input.now self.new.place ≡ b)) }
         ensures told { IfErr result (λ m. (m.reason ≡ Unfinished) × Told self.old.input.now m) }
         ensures ended { OnErr result (self.new.place ≡ length self.old.input.now) }
+        ensures stops { IfErr result (λ m. Lacks self.old.input.now self.old.place m) }
     {
         self.skip_blanks();
         self.peek().ok_or(self.misread(Reason::Unfinished))

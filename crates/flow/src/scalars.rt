@@ -1,8 +1,10 @@
 ghost use Rattle.std.specs.Prelude.{◌≡◌, ◌==◌, encode_utf8, cond, take, ℕ, ◌+◌, ◌-◌, ◌*◌, ◌^◌, ◌<◌, ◌≤◌, ◌⊎◌, ◌≢◌, List, ◌∷◌, [], ◌++◌, length, drop, vec_len, IfSome, IfOk, IfErr, OnOk, Ok, Err, MatchResult, slice_index};
 ghost use Rattle.flow.specs.Content.{node_of};
+ghost use Rattle.flow.specs.declared.misread.Reason.TheVariants.{Trailing};
 ghost use Rattle.flow.specs.Places.{NoRoom, ReadPiece, Told, Wrote};
 ghost use Rattle.flow.specs.Reads.{Reads};
 ghost use Rattle.flow.specs.Scalars.{character as character_of, code_unit, escape, escaped, hex_value, pair_of, piece, Inside, Integer};
+ghost use Rattle.flow.specs.Stops.{PieceReason, StopsInside, StopsLeaf};
 ghost use Rattle.flow.specs.Flow.{Key};
 ghost use Rattle.std.specs.List.{prefix_len};
 ghost use Rattle.std.specs.Char.{is_ascii_digit};
@@ -169,8 +171,10 @@ impl Cursor<'_> {
     /// Reads an integer.
     pub(crate) fn read_integer(&mut self, arrays: &mut Arrays) -> Result<(), Misread>
         ensures input { self.new.input ≡ self.old.input }
+        ensures inside { IfErr result (λ m. m.reason ≢ Trailing) }
         ensures place { IfErr result (λ m. m.place ≡ self.old.place) }
         ensures told { (slice_index self.old.input.now self.old.place ≡ 45) ⊎ IsInRange 48 57 (slice_index self.old.input.now self.old.place) → IfErr result (λ m. Told self.old.input.now m) }
+        ensures stops { IfErr result (λ m. StopsLeaf self.old.input.now self.old.place m) }
         ensures reads { OnOk result (Reads Key self.old self.new arrays.old arrays.new) }
     {
         let rest = self.rest();
@@ -185,8 +189,10 @@ impl Cursor<'_> {
     fn read_piece(&mut self, arrays: &mut Arrays) -> Result<(), Misread>
         requires { self.old.place < length self.old.input.now }
         ensures input { self.new.input ≡ self.old.input }
+        ensures inside { IfErr result (λ m. m.reason ≢ Trailing) }
         ensures onward { OnOk result (self.old.place < self.new.place) }
         ensures told { IfErr result (λ m. Told self.old.input.now m) }
+        ensures stops { IfErr result (λ m. (m.place ≡ self.old.place) × PieceReason m.reason) }
         ensures nodes { arrays.new.nodes ≡ arrays.old.nodes }
         ensures text { OnOk result (ReadPiece self.old.input.now self.old.place self.new.place arrays.old.text.items arrays.new.text.items) }
     {
@@ -199,8 +205,10 @@ impl Cursor<'_> {
     /// Reads the bytes of a string, and its closing quote.
     fn read_bytes(&mut self, arrays: &mut Arrays) -> Result<(), Misread>
         ensures input { self.new.input ≡ self.old.input }
+        ensures inside { IfErr result (λ m. m.reason ≢ Trailing) }
         ensures onward { OnOk result (self.old.place < self.new.place) }
         ensures told { IfErr result (λ m. Told self.old.input.now m) }
+        ensures stops { IfErr result (λ m. StopsInside self.old.input.now self.old.place m) }
         ensures nodes { arrays.new.nodes ≡ arrays.old.nodes }
         ensures text { OnOk result ((ts : List ℕ) × (Inside (drop self.old.place self.old.input.now) (drop self.new.place self.old.input.now) ts) × (arrays.new.text.items ≡ arrays.old.text.items ++ ts)) }
     {
@@ -218,7 +226,9 @@ impl Cursor<'_> {
     pub(crate) fn read_string(&mut self, arrays: &mut Arrays) -> Result<(), Misread>
         requires { self.old.place < length self.old.input.now }
         ensures input { self.new.input ≡ self.old.input }
+        ensures inside { IfErr result (λ m. m.reason ≢ Trailing) }
         ensures told { IfErr result (λ m. Told self.old.input.now m) }
+        ensures stops { slice_index self.old.input.now self.old.place ≡ 34 → IfErr result (λ m. StopsLeaf self.old.input.now self.old.place m) }
         ensures reads { slice_index self.old.input.now self.old.place ≡ 34 → OnOk result (Reads Key self.old self.new arrays.old arrays.new) }
     {
         let quote = *self;

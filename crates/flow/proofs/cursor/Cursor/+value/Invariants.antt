@@ -1,6 +1,7 @@
 use Rattle.std.proofs.Common.{◌≡◌, ◌+◌, ◌-◌, ◌*◌, length}
 use Rattle.flow.specs.Content.{is_map}
 use Rattle.flow.proofs.Groups.{Begun}
+use Rattle.flow.proofs.Stopping.{StopsBehind}
 use Rattle.flow.proofs.cursor.Cursor.+value.Given as goal
 
 -- each list or map that opens takes one from the depth, and each other call takes one from the rank
@@ -20,6 +21,7 @@ abbrev pub invariant-read_items-loop-self : goal.invariant-read_items-loop-self
 invariant-read_items-loop-self l = record {
   input : l.self.input ≡ l.fn.self.input;
   begun : Begun (is_map l.fn.group) l.fn.self.input.now l.fn.self.place l.self.place l.fn.arrays.nodes.items l.arrays.nodes.items l.fn.arrays.text.items l.arrays.text.items;
+  stops : StopsBehind l.fn.self.input.now (is_map l.fn.group) l.fn.depth.left l.fn.self.place l.self.place;
 }
 
 abbrev pub decreases-read_items-loop-self : goal.decreases-read_items-loop-self
