@@ -64,7 +64,7 @@ pub trait Substituter {
 
     /// Appends the text for a digit.
     fn substitute(&self, digit: u8, out: &mut Buffer<u8>) -> Result<(), TooLong>
-        ensures { Appended out.old (text_of (part self.now digit)) result out.new };
+        ensures { Appended out.old.items (text_of (part self.now digit)) result out.new.items };
 }
 
 /// `<placeholder_d>` for the digit d.
@@ -88,8 +88,7 @@ impl Substituter for Placeholders {
     fn substitute(&self, digit: u8, out: &mut Buffer<u8>) -> Result<(), TooLong> {
         match digit {
             0..=9 => out.extend(&placeholder(digit)),
-            // an empty text and no `Ok(())`: the buffer tells its limit only in a call
-            _ => out.extend(b""),
+            _ => Ok(()),
         }
     }
 }
@@ -122,7 +121,7 @@ fn is_meta(byte: u8) -> bool
 }
 
 fn write_literal_byte(byte: u8, out: &mut Buffer<u8>) -> Result<(), TooLong>
-    ensures { Appended out.old (literal byte) result out.new }
+    ensures { Appended out.old.items (literal byte) result out.new.items }
 {
     if is_meta(byte) {
         out.extend(&[b'\\', byte])
@@ -149,7 +148,7 @@ impl Pieces<u8> for Literal<'_> {
 
 /// Appends a text so that it matches itself.
 pub(crate) fn write_literally(text: &[u8], out: &mut Buffer<u8>) -> Result<(), TooLong>
-    ensures { Appended out.old (literally text.now) result out.new }
+    ensures { Appended out.old.items (literally text.now) result out.new.items }
 {
     out.write_pieces(Literal(text))
 }
@@ -159,7 +158,7 @@ fn write_pair<S: Substituter>(
     substituter: &S,
     out: &mut Buffer<u8>,
 ) -> Result<(), TooLong>
-    ensures { Appended out.old (put (S.part substituter.now) (meant_pair pair)) result out.new }
+    ensures { Appended out.old.items (put (S.part substituter.now) (meant_pair pair)) result out.new.items }
 {
     match pair {
         Pair::Escaped(byte) if byte.is_ascii_digit() => substituter.substitute(byte - b'0', out),
@@ -192,7 +191,7 @@ pub fn substitute_backrefs_in_regex<S: Substituter>(
     substituter: &S,
     out: &mut Buffer<u8>,
 ) -> Result<(), TooLong>
-    ensures text { Appended out.old (substituted (S.part substituter.now) regex.now) result out.new }
+    ensures text { Appended out.old.items (substituted (S.part substituter.now) regex.now) result out.new.items }
     ensures unchanged { has_backref regex.now ≡ false → substituted (S.part substituter.now) regex.now ≡ regex.now }
 {
     out.write_pieces(Substituted {

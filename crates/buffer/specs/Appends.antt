@@ -2,6 +2,11 @@
 use Rattle.std.specs.Fmt.{decimal}
 use Rattle.std.specs.Prelude.{◌≡◌, ℕ, ◌+◌, ◌<◌, ◌≤◌, List, [], ◌++◌, length, Some, None, Option, Ok, Err, codes, Result}
 
+-- what a buffer holds, never more than its limit
+pub record Held (A : Type 0) : Type 0 where
+  pub items : List A
+  pub within : length items ≤ 65536
+
 -- `text` stands behind what was there; or there is no room for all of it, and nothing is changed
 abbrev pub Appended : {A V E : Type 0} → List A → List A → Result V E → List A → Type 0
 Appended before text (Ok v) after = (length before + length text ≤ 65536) × (after ≡ before ++ text)

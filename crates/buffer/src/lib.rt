@@ -3,7 +3,7 @@
 #![tactic(auto)]
 
 ghost use Rattle.std.specs.Prelude.{◌≡◌, ℕ, ◌≤◌, List, [], ◌∷◌, length, take, Some, IfOk, vec_len, vec_capacity};
-ghost use Rattle.buffer.specs.Appends.{Appended, WroteNext, too_long_text};
+ghost use Rattle.buffer.specs.Appends.{Held, Appended, WroteNext, too_long_text};
 
 use std::alloc::{AllocError, Global};
 use std::error::Error;
@@ -33,14 +33,15 @@ impl Error for TooLong {}
 #[derive(Drop)]
 pub struct Buffer<T> {
     items: Vec<T>,
+    ghost within: { length items.items ≤ 65536 },
 }
 
 impl<T> Model for Buffer<T> {
-    ghost Value = { List T };
+    ghost Value = { Held T };
 
-    ghost view = { λ b. b.items.items };
+    ghost view = { λ b. record { items = b.items.items; within = b.within } };
 
-    ghost invariant = { λ b. (65536 ≤ vec_capacity b.items) × (vec_len b.items ≤ 65536) };
+    ghost invariant = { λ b. 65536 ≤ vec_capacity b.items };
 }
 
 /// What is written piece by piece.
@@ -53,46 +54,46 @@ pub trait Pieces<T: Copy> {
 
     /// Writes the next piece, if there is one more: all of it, or nothing where there is no room.
     fn write_next(&mut self, out: &mut Buffer<T>) -> Option<Result<(), TooLong>>
-        ensures { WroteNext (left self.old) (left self.new) (size self.old) (size self.new) result out.old out.new };
+        ensures { WroteNext (left self.old) (left self.new) (size self.old) (size self.new) result out.old.items out.new.items };
 }
 
 impl<T: Copy> Buffer<T> {
     pub fn new(heap: Global) -> Result<Self, AllocError>
-        ensures { IfOk result (λ b. b ≡ []) }
+        ensures { IfOk result (λ b. b.items ≡ []) }
     {
         let items = Vec::with_capacity(heap, LIMIT)?;
         Ok(Buffer { items })
     }
 
     pub fn as_slice(&self) -> &[T]
-        ensures { result.now ≡ self.now }
+        ensures { result.now ≡ self.now.items }
     {
         self.items.as_slice()
     }
 
     /// How many items there are; that they are within the limit is learnt here.
     pub fn len(&self) -> usize
-        ensures is { result ≡ length self.now }
+        ensures is { result ≡ length self.now.items }
         ensures within { result ≤ 65536 }
     {
         self.items.len()
     }
 
     pub fn clear(&mut self)
-        ensures { self.new ≡ [] }
+        ensures { self.new.items ≡ [] }
     {
         self.items.clear();
     }
 
     /// Keeps the first `len` items.
     pub fn truncate(&mut self, len: usize)
-        ensures { self.new ≡ take len self.old }
+        ensures { self.new.items ≡ take len self.old.items }
     {
         self.items.truncate(len);
     }
 
     pub fn push(&mut self, item: T) -> Result<(), TooLong>
-        ensures { Appended self.old (item ∷ []) result self.new }
+        ensures { Appended self.old.items (item ∷ []) result self.new.items }
     {
         if self.len() >= LIMIT {
             return Err(TooLong);
@@ -102,7 +103,7 @@ impl<T: Copy> Buffer<T> {
     }
 
     pub fn extend(&mut self, items: &[T]) -> Result<(), TooLong>
-        ensures { Appended self.old items.now result self.new }
+        ensures { Appended self.old.items items.now result self.new.items }
     {
         if items.len() > LIMIT - self.len() {
             return Err(TooLong);
@@ -112,7 +113,7 @@ impl<T: Copy> Buffer<T> {
 
     /// Appends all pieces, or nothing where there is no room for all of them.
     pub fn write_pieces<P: Pieces<T> + Drop>(&mut self, mut pieces: P) -> Result<(), TooLong>
-        ensures { Appended self.old (P.left pieces) result self.new }
+        ensures { Appended self.old.items (P.left pieces) result self.new.items }
     {
         let before = self.len();
         while let Some(written) = pieces.write_next(self) {

@@ -208,7 +208,7 @@ impl Pieces<usize> for GroupNumbers<'_> {
         // A `match`: `extend(found.as_slice())` would copy nothing at most marks.
         Some(match self.numbering.meet(mark) {
             Some(number) => out.push(number),
-            None => out.extend(&[]),
+            None => Ok(()),
         })
     }
 }
@@ -216,7 +216,7 @@ impl Pieces<usize> for GroupNumbers<'_> {
 /// Appends the numbers of the groups whose text is consumed, rising: 0 for the whole match, and each capturing group that
 /// lies in no lookaround.
 pub fn get_consuming_capture_indexes(regex: &[u8], out: &mut Buffer<usize>) -> Result<(), TooLong>
-    ensures numbers { Appended out.old (consuming_captures regex.now) result out.new }
+    ensures numbers { Appended out.old.items (consuming_captures regex.now) result out.new.items }
     ensures rising { Rising (consuming_captures regex.now) }
 {
     out.write_pieces(GroupNumbers {

@@ -1,8 +1,8 @@
 -- A record of an engine's verdicts agrees with the engine.
-use Rattle.std.proofs.Common.{◌≡◌, ℕ, zero, suc, ◌<◌, ◌≤◌, Bool, true, false, cond, eqb, ltb, ◌⊎◌, List, [], ◌∷◌, ◌++◌, length, get_or, Some, None, Ok, Err, Option, Result, sym, refl, ap, ◌∙◌, subst, inl, inr, ⊎_elim, arith}
+use Rattle.std.proofs.Common.{◌≡◌, ℕ, zero, suc, ◌<◌, ◌≤◌, Bool, true, false, cond, eqb, ◌⊎◌, List, [], ◌∷◌, ◌++◌, length, get_or, Some, None, Ok, Err, Option, Result, sym, refl, ap, ◌∙◌, subst, inl, inr, ⊎_elim, arith}
 use Rattle.std.specs.Str.{bytes_eq}
 use Rattle.std.proofs.lemmas.Slice.Eq.{bytes_eq-Decides}
-use Rattle.std.proofs.lemmas.Bool.{cond-true, cond-false, eq-eqb, ne_eqb, le-ltb, cases_eq}
+use Rattle.std.proofs.lemmas.Bool.{cond-true, cond-false, eq-eqb, ne_eqb, cases_eq}
 use borrow.Author.Tests.{clash}
 use Rattle.judging.specs.declared.range.TextRange.{TextRange}
 use Rattle.judging.specs.declared.recorded.Entry.{Entry}
@@ -11,17 +11,12 @@ use Rattle.judging.specs.Entries.{SoundBelow}
 use Rattle.judging.specs.Judging.{There, number_of}
 use Rattle.judging.specs.Ranges.{lies, text_at, nowhere}
 use Rattle.judging.specs.Recording.{entries_for, only_taken, Agreed, TakenDown, ThereBelow}
-use Rattle.judging.specs.Records.{recorded, recorded_number, fault_after, fault_of, is_text}
+use Rattle.judging.proofs.RecordLaws.{read_back}
+use Rattle.judging.specs.Records.{recorded, recorded_number, fault_of, is_text}
 
 -- the number of the record's verdict on a text
 abbrev numbers : List ℕ → List Entry → List ℕ → ℕ
 numbers whole es t = number_of recorded_number (recorded whole es t)
-
--- what an entry says is read back
-read_back : (n : ℕ) → n ≤ 255 → number_of recorded_number (fault_of n) ≡ n
-unfolding fault_after
-read_back zero h = refl
-read_back (suc n) h = cond-false (ltb 255 (suc n)) 255 (suc n) (le-ltb 255 (suc n) h)
 
 -- the text at a range is that text
 text_is : (whole t : List ℕ) (r : TextRange) → is_text whole t r ≡ true → text_at whole r ≡ t
@@ -39,7 +34,6 @@ Told number whole texts t = (numbers whole (entries_for number whole texts) t �
     ⊎ ((numbers whole (entries_for number whole texts) t ≡ 255) × ((k : ℕ) → k < length texts → is_text whole t (get_or texts k nowhere) ≡ false))
 
 told : (number : List ℕ → ℕ) → ((t : List ℕ) → number t ≤ 255) → (whole : List ℕ) (texts : List TextRange) (t : List ℕ) → Told number whole texts t
-unfolding fault_after
 told number bound whole [] t = inr (refl, λ k h. absurd (omega arith))
 told number bound whole (r ∷ texts) t = go (is_text whole t r) refl (cases_eq n 255) (told number bound whole texts t) where
   n : ℕ
@@ -77,19 +71,19 @@ told number bound whole (r ∷ texts) t = go (is_text whole t r) refl (cases_eq 
       passed (ap (λ (es : List Entry). numbers whole es t) (written z)
       ∙ ap (number_of recorded_number) (cond-false (is_text whole t r) (fault_of n) (recorded whole rest t) e)) e w
 
-agree : (number : List ℕ → ℕ) → ((t : List ℕ) → number t ≤ 255) → (whole : List ℕ) (texts : List TextRange) (k : ℕ) → k < length texts → There whole texts k →
+pub agree : (number : List ℕ → ℕ) → ((t : List ℕ) → number t ≤ 255) → (whole : List ℕ) (texts : List TextRange) (k : ℕ) → k < length texts → There whole texts k →
     numbers whole (entries_for number whole texts) (text_at whole (get_or texts k nowhere)) ≡ number (text_at whole (get_or texts k nowhere))
 agree number bound whole texts k h there = ⊎_elim
     (λ e. e)
     (λ w. absurd (clash (sym (w.1 k h) ∙ text_there whole (get_or texts k nowhere) there)))
     (told number bound whole texts (text_at whole (get_or texts k nowhere)))
 
-number_bound : {F : Type 0} (number : F → ℕ) → ((f : F) → number f ≤ 255) → (o : Option F) → number_of number o ≤ 255
+pub number_bound : {F : Type 0} (number : F → ℕ) → ((f : F) → number f ≤ 255) → (o : Option F) → number_of number o ≤ 255
 number_bound number bound None = omega arith
 number_bound number bound (Some f) = bound f
 
 -- a record can be made of the entries
-sound_entries : (number : List ℕ → ℕ) (whole : List ℕ) (texts : List TextRange) → ThereBelow whole texts (length texts) →
+pub sound_entries : (number : List ℕ → ℕ) (whole : List ℕ) (texts : List TextRange) → ThereBelow whole texts (length texts) →
     SoundBelow whole (entries_for number whole texts) (length (entries_for number whole texts))
 sound_entries number whole [] there = λ k h. absurd (omega arith)
 sound_entries number whole (r ∷ texts) there =

@@ -1,5 +1,5 @@
 -- Recorded verdicts.
-use Rattle.std.specs.Prelude.{◌≡◌, ℕ, zero, suc, ◌<◌, Bool, true, false, cond, List, [], ◌∷◌, ◌++◌, length, get_or, Some, None, Ok, Err, codes, Option, Result, nat_lt}
+use Rattle.std.specs.Prelude.{◌≡◌, ℕ, zero, suc, ◌<◌, ◌≤◌, Bool, true, false, cond, List, [], ◌∷◌, ◌++◌, length, get_or, Some, None, Ok, Err, codes, Option, Result, nat_lt}
 use Rattle.std.proofs.Math.Nat.{zero-lt-suc}
 use Rattle.std.specs.Int.NonZero.{non_zero_u8_get}
 use Rattle.std.specs.Fmt.{decimal}
@@ -11,6 +11,7 @@ use Rattle.judging.specs.declared.recorded.RecordedFault.{RecordedFault}
 use Rattle.judging.specs.declared.recorded.RecordRefusal.{RecordRefusal}
 use Rattle.judging.specs.declared.recorded.RecordRefusal.TheVariants.{Outside, NoVerdict}
 use Rattle.judging.specs.Entries.{blank, SoundBelow}
+use Rattle.judging.specs.Judging.{number_of}
 use Rattle.judging.specs.Ranges.{lies, text_at}
 
 -- the number of a fault of the record; a number that no fault has counts as unrecorded
@@ -22,7 +23,7 @@ abbrev pub recorded_text : RecordedFault → List ℕ
 recorded_text f = codes "the fault of number " ++ decimal (non_zero_u8_get f.number)
 
 -- the fault of the number n + 1, so that it is none of the number 0
-unfoldable pub fault_after : ℕ → RecordedFault
+abbrev pub fault_after : ℕ → RecordedFault
 fault_after n = record { number = record { value = suc n; ok = zero-lt-suc n } }
 
 -- the fault of a text that is not recorded: its number is 255
@@ -63,3 +64,5 @@ pub record RecordLaws : Type 0 where
   -- a text without an entry has the fault 255
   pub missing : (whole : List ℕ) (es : List Entry) (t : List ℕ) → ((j : ℕ) → j < length es → is_text whole t (get_or es j blank).text ≡ false) →
       recorded whole es t ≡ Some unrecorded
+  -- what an entry's number says has that number
+  pub numbers : (n : ℕ) → n ≤ 255 → number_of recorded_number (fault_of n) ≡ n

@@ -44,11 +44,12 @@ impl From<TooLong> for Untaken {
 
 /// Takes down one verdict. A fault of the number 255 needs no entry: a text without one has that fault.
 fn take_down(text: TextRange, verdict: u8, entries: &mut Buffer<Entry>) -> Result<(), TooLong>
-    ensures { Appended entries.old (entry_for verdict text) result entries.new }
+    ensures { Appended entries.old.items (entry_for verdict text) result entries.new.items }
 {
-    let entry = (verdict != UNRECORDED).then_some(Entry { text, verdict });
-    // also where there is none: the buffer tells its limit only in a call
-    entries.extend(entry.as_slice())
+    if verdict == UNRECORDED {
+        return Ok(());
+    }
+    entries.push(Entry { text, verdict })
 }
 
 /// Takes down the verdicts of texts one after another, until one cannot be had.
@@ -58,8 +59,8 @@ fn take_all<E: Engine>(
     texts: &[TextRange],
     entries: &mut Buffer<Entry>,
 ) -> Result<(), Untaken>
-    requires { entries.old ≡ [] }
-    ensures taken { TakenDown (λ t. number_of E.Fault.numbered (E.verdict engine.old t)) whole.now texts.now result (only_taken result entries.new) }
+    requires { entries.old.items ≡ [] }
+    ensures taken { TakenDown (λ t. number_of E.Fault.numbered (E.verdict engine.old t)) whole.now texts.now result (only_taken result entries.new.items) }
     ensures kept { (t : List ℕ) → E.verdict engine.new t ≡ E.verdict engine.old t }
 {
     for (number, range) in texts.iter().enumerate() {
@@ -77,8 +78,8 @@ pub fn record_verdicts<E: Engine>(
     texts: &[TextRange],
     entries: &mut Buffer<Entry>,
 ) -> Result<(), Untaken>
-    ensures taken { TakenDown (λ t. number_of E.Fault.numbered (E.verdict engine.old t)) whole.now texts.now result entries.new }
-    ensures agrees { Agreed (λ t. number_of E.Fault.numbered (E.verdict engine.old t)) whole.now texts.now result entries.new }
+    ensures taken { TakenDown (λ t. number_of E.Fault.numbered (E.verdict engine.old t)) whole.now texts.now result entries.new.items }
+    ensures agrees { Agreed (λ t. number_of E.Fault.numbered (E.verdict engine.old t)) whole.now texts.now result entries.new.items }
     ensures kept { (t : List ℕ) → E.verdict engine.new t ≡ E.verdict engine.old t }
 {
     entries.clear();

@@ -22,7 +22,7 @@ impl Pieces<u8> for ForNewlines<'_> {
 }
 
 fn write_for_newlines(token: Token, out: &mut Buffer<u8>) -> Result<(), TooLong>
-    ensures { Appended out.old (with_newline (meant token.entry)) result out.new }
+    ensures { Appended out.old.items (with_newline (meant token.entry)) result out.new.items }
 {
     match token {
         Token::Plain(b'$') => out.extend(b"(?m:$)"),
@@ -32,7 +32,7 @@ fn write_for_newlines(token: Token, out: &mut Buffer<u8>) -> Result<(), TooLong>
 
 /// Rewrites a pattern for lines that end with a newline: a `$` matches before that newline.
 pub fn regex_for_newlines(regex: &[u8], out: &mut Buffer<u8>) -> Result<(), TooLong>
-    ensures { Appended out.old (for_newlines regex.now) result out.new }
+    ensures { Appended out.old.items (for_newlines regex.now) result out.new.items }
 {
     out.write_pieces(ForNewlines(Parser::new(regex)))
 }
@@ -62,7 +62,7 @@ fn write_for_no_newlines(
     out: &mut Buffer<u8>,
 ) -> Result<(), TooLong>
     requires { Told token }
-    ensures { Appended out.old (token_without (meant token.entry) next) result out.new }
+    ensures { Appended out.old.items (token_without (meant token.entry) next) result out.new.items }
 {
     match token {
         Token::Escape(b'n') if !is_repeat(next) => out.push(b'$'),
@@ -101,7 +101,7 @@ impl Pieces<u8> for Texts<'_> {
 
 /// Rewrites a pattern for lines that end without a newline: `$` stands where a newline was to match.
 pub fn regex_for_no_newlines(regex: &[u8], out: &mut Buffer<u8>) -> Result<(), TooLong>
-    ensures { Appended out.old (for_no_newlines regex.now) result out.new }
+    ensures { Appended out.old.items (for_no_newlines regex.now) result out.new.items }
 {
     out.write_pieces(ForNoNewlines(Parser::new(regex)))
 }

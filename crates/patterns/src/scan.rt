@@ -62,7 +62,7 @@ pub struct PatternScan {
 
 impl PatternScan {
     pub fn new(heap: Global) -> Result<Self, AllocError>
-        ensures { IfOk result (λ s. (s.with_newlines ≡ []) × (s.without_newlines ≡ []) × (s.captures ≡ [])) }
+        ensures { IfOk result (λ s. (s.with_newlines.items ≡ []) × (s.without_newlines.items ≡ []) × (s.captures.items ≡ [])) }
     {
         let rewriter = Rewriter::new(heap)?;
         let with_newlines = Buffer::new(heap)?;
@@ -78,7 +78,7 @@ impl PatternScan {
 
     /// Reads one pattern; what was read before is forgotten.
     pub fn read(&mut self, pattern: &[u8]) -> Result<Features, Refusal>
-        ensures { Scanned pattern.now result self.new.with_newlines self.new.without_newlines self.new.captures }
+        ensures { Scanned pattern.now result self.new.with_newlines.items self.new.without_newlines.items self.new.captures.items }
     {
         self.with_newlines.clear();
         self.without_newlines.clear();
@@ -95,19 +95,19 @@ impl PatternScan {
     }
 
     pub fn with_newlines(&self) -> &[u8]
-        ensures { result.now ≡ self.now.with_newlines }
+        ensures { result.now ≡ self.now.with_newlines.items }
     {
         self.with_newlines.as_slice()
     }
 
     pub fn without_newlines(&self) -> &[u8]
-        ensures { result.now ≡ self.now.without_newlines }
+        ensures { result.now ≡ self.now.without_newlines.items }
     {
         self.without_newlines.as_slice()
     }
 
     pub fn captures(&self) -> &[usize]
-        ensures { result.now ≡ self.now.captures }
+        ensures { result.now ≡ self.now.captures.items }
     {
         self.captures.as_slice()
     }

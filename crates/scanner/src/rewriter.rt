@@ -16,7 +16,7 @@ pub struct Rewriter {
 
 impl Rewriter {
     pub fn new(heap: Global) -> Result<Self, AllocError>
-        ensures { IfOk result (λ w. w.replaced ≡ []) }
+        ensures { IfOk result (λ w. w.replaced.items ≡ []) }
     {
         let replaced = Buffer::new(heap)?;
         Ok(Rewriter { replaced })
@@ -30,7 +30,7 @@ impl Rewriter {
         lines_include_newline: bool,
         out: &mut Buffer<u8>,
     ) -> Result<(), TooLong>
-        ensures text { Rewritten lines_include_newline regex.now out.old result out.new }
+        ensures text { Rewritten lines_include_newline regex.now out.old.items result out.new.items }
         ensures laws { RewritingLaws }
     {
         self.replaced.clear();

@@ -1,7 +1,8 @@
 -- Laws of POSIX brackets, and of the walk through a class that replaces them.
-use Rattle.std.proofs.Common.{◌≡◌, ℕ, suc, pred, ◌+◌, ◌-◌, ◌<◌, Bool, true, false, cond, not, ◌&&◌, eqb, ◌⊎◌, List, [], ◌∷◌, ◌++◌, length, take, drop, Some, None, Option, sym, refl, ap, ◌∙◌, subst, inl, inr, arith, length-drop, length-take}
+use Rattle.std.proofs.Common.{◌≡◌, ℕ, suc, pred, ◌+◌, ◌-◌, ◌<◌, Bool, true, false, cond, not, ◌&&◌, eqb, ◌⊎◌, List, [], ◌∷◌, ◌++◌, length, get_or, take, drop, Some, None, Option, sym, refl, ap, ◌∙◌, subst, inl, inr, arith, length-drop, length-take}
 use Rattle.std.specs.List.{flat_map}
-use Rattle.std.proofs.lemmas.List.{take-append-drop, append_assoc}
+use Rattle.std.specs.Option.{is_some}
+use Rattle.std.proofs.lemmas.List.{take-append-drop, append_assoc, drop-drop, take_all, take_more, at_drop_more}
 use Rattle.std.proofs.lemmas.Bool.{cond-true, cond-false, cond_both, eqb-true, eq-eqb, ne_eqb, cases_eq, and_parts, and_from, not_from_false, not-true}
 use borrow.Author.Tests.{clash}
 use Rattle.tokens.specs.declared.class.ClassState.{ClassState}
@@ -316,6 +317,31 @@ past_a_byte w xs ys b p q none = (shorter xs p q, go (closes w b) refl) where
       let step = step_byte w (stepped w b) xs ys b p q goes refl none in
       joined w xs (b ∷ []) (rest_replaced (stepped w b) ys) (rest_behind (stepped w b) ys) step.0 step.1
 
+-- No bracket stands behind the first n bytes: none is found in what is left,
+pub none_found : (w : ClassWalker) (xs : List ℕ) (n : ℕ) → is_some (bracket_here w (take (length xs - n) (drop n xs))) ≡ false → bracket_here w (drop n xs) ≡ None
+none_found w xs n e =
+    let whole : take (length xs - n) (drop n xs) ≡ drop n xs = take_all _ _ (omega (arith, length-drop n xs)) in
+    go _ (ap (λ (zs : List ℕ). is_some (bracket_here w zs)) (sym whole) ∙ e) where
+      go : (o : Option PosixClass) → is_some o ≡ false → o ≡ None
+      go None e = refl
+      go (Some p) e = absurd (clash (sym e))
+
+-- or the byte there begins none.
+pub none_begins : (w : ClassWalker) (xs : List ℕ) (n : ℕ) → n < length xs → (get_or xs n 0 ≡ 91 → ⊥) → bracket_here w (drop n xs) ≡ None
+none_begins w xs n h other =
+    at_drop_more (bracket_here w) xs n 0 h
+    ∙ ap (λ (t : Bool). cond (t && not (is_escaped w.state)) (bracket_at (get_or xs n 0 ∷ drop (n + 1) xs)) None) (ne_eqb (get_or xs n 0) 91 other)
+
+-- A run of a class's bytes that stay, by one byte more.
+pub run_on : (w v : ClassWalker) (xs : List ℕ) (n : ℕ) (k : Option ClassWalker) → n < length xs → bracket_here v (drop n xs) ≡ None → walk_behind v (get_or xs n 0) ≡ k →
+    left_from (Some w) xs ≡ take n xs ++ left_from (Some v) (drop n xs) → left_from (Some w) xs ≡ take (n + 1) xs ++ left_from k (drop (n + 1) xs)
+run_on w v xs n k h none behind stays =
+    let b = get_or xs n 0 in
+    let ys = drop (n + 1) xs in
+    let step = past_a_byte v (drop n xs) ys b (at_drop_more front xs n 0 h) (sym (drop-drop 1 n xs)) none in
+    stays ∙ ap (λ (us : List ℕ). take n xs ++ us) (step.1 ∙ ap (λ (o : Option ClassWalker). b ∷ left_from o ys) behind)
+    ∙ sym (append_assoc (take n xs) (b ∷ []) (left_from k ys)) ∙ ap (λ (us : List ℕ). us ++ left_from k ys) (sym (take_more xs n 0 h))
+
 -- nothing is left in a class where the text ends
 pub past_the_end : (w : ClassWalker) (xs : List ℕ) → xs ≡ [] → left_from (Some w) xs ≡ []
 past_the_end w xs e = let step = rest_nil w xs e in joined w xs [] [] [] step.0 step.1 ∙ ap (flat_map token_with_properties) (cut_nil first spelled)
@@ -331,6 +357,26 @@ past_an_opening xs ys p q =
       shorter : (xs : List ℕ) → front xs ≡ Some 91 → ys ≡ drop 1 xs → length ys < length xs
       shorter [] p q = let z : ◌≡◌ {A = ℕ} 0 1 = cc in absurd (omega arith)
       shorter (x ∷ xs) p q = omega (arith, simp length-drop at (ap length q))
+
+-- what a slice from 1 on has
+pub behind_first : (xs : List ℕ) → take (length xs - 1) (drop 1 xs) ≡ drop 1 xs
+behind_first xs = take_all _ _ (omega (arith, length-drop 1 xs))
+
+-- behind that `[` and the bytes after it that stay
+pub past_an_opened_run : (xs ys zs : List ℕ) (n : ℕ) (k : Option ClassWalker) → front xs ≡ Some 91 → ys ≡ drop 1 xs →
+    left_from (Some opened) ys ≡ take n ys ++ left_from k (drop n ys) → zs ≡ drop (n + 1) xs →
+    (length zs < length xs) × (with_properties xs ≡ take (n + 1) xs ++ left_from k zs)
+past_an_opened_run xs ys zs n k p q stays r =
+    let past = past_an_opening xs ys p q in
+    let behind : drop n ys ≡ zs = ap (drop n) q ∙ drop-drop n 1 xs ∙ ap (λ (m : ℕ). drop m xs) (let e : 1 + n ≡ n + 1 = omega arith in e) ∙ sym r in (
+      omega (arith, past.0, ap length behind, length-drop n ys),
+      past.1 ∙ ap (λ (us : List ℕ). 91 ∷ us) stays ∙ ap (λ (us : List ℕ). 91 ∷ (take n ys ++ left_from k us)) behind ∙ ap (λ (us : List ℕ). us ++ left_from k zs) (taken xs p q),
+    ) where
+      taken : (xs : List ℕ) → front xs ≡ Some 91 → ys ≡ drop 1 xs → 91 ∷ take n ys ≡ take (n + 1) xs
+      taken [] p q = let z : ◌≡◌ {A = ℕ} 0 1 = cc in absurd (omega arith)
+      taken (x ∷ xs) p q =
+          let is : 91 ≡ x = cc in
+          ap (λ (c : ℕ). c ∷ take n ys) is ∙ ap (λ (us : List ℕ). x ∷ take n us) q ∙ ap (λ (m : ℕ). take m (x ∷ xs)) (let e : suc n ≡ n + 1 = omega arith in e)
 
 -- A token that is no class stays as it is.
 same_outside : (x : ℕ) (xs : List ℕ) → (x ≡ 91 → ⊥) → token_with_properties (first (x ∷ xs)) ≡ spelled (first (x ∷ xs))

@@ -175,7 +175,7 @@ fn comment_length(text: &[u8]) -> usize
 
 /// Writes a token as it stands.
 pub fn write_token(token: Token, out: &mut Buffer<u8>) -> Result<(), TooLong>
-    ensures { Appended out.old (spelled (meant token.entry)) result out.new }
+    ensures { Appended out.old.items (spelled (meant token.entry)) result out.new.items }
 {
     match token {
         Token::Escape(byte) => out.extend(&[b'\\', byte]),

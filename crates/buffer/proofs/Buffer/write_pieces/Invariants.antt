@@ -1,4 +1,3 @@
-use Rattle.std.proofs.Common.{◌≤◌, length}
 use Rattle.buffer.proofs.Writes.{Writing}
 use Rattle.buffer.proofs.Buffer.write_pieces.Given as goal
 
@@ -6,8 +5,7 @@ abbrev pub invariant-loop-written : goal.invariant-loop-written
 invariant-loop-written g l =
     record {
       -- what is written, and then what is left, is what there was to write
-      writing : Writing l.initial.self (g.P.Pieces.left l.initial.pieces) l.self (g.P.Pieces.left l.pieces);
-      within : length l.self ≤ 65536;
+      writing : Writing l.initial.self.items (g.P.Pieces.left l.initial.pieces) l.self.items (g.P.Pieces.left l.pieces);
     }
 
 abbrev pub decreases-loop-written : goal.decreases-loop-written

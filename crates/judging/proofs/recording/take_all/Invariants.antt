@@ -9,5 +9,5 @@ abbrev pub invariant-loop-number : goal.invariant-loop-number
 invariant-loop-number g l =
     let number = λ (t : List ℕ). number_of g.E.Fault.Numbered.numbered (g.E.Engine.verdict l.initial.engine t) in
     ThereBelow l.whole l.texts l.number
-    × (l.entries ++ entries_for number l.whole (drop l.number l.texts) ≡ entries_for number l.whole l.texts)
+    × (l.entries.items ++ entries_for number l.whole (drop l.number l.texts) ≡ entries_for number l.whole l.texts)
     × ((t : List ℕ) → g.E.Engine.verdict l.engine t ≡ g.E.Engine.verdict l.initial.engine t)

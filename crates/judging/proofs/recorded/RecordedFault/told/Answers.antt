@@ -3,7 +3,7 @@ use Rattle.std.proofs.Math.Nat.{zero-lt-suc}
 use Rattle.std.specs.Coded.{le_prop}
 use Rattle.std.specs.Int.NonZero.{non_zero_u8_get}
 use Rattle.std.specs.declared.num.NonZeroU8.{NonZeroU8}
-use Rattle.judging.specs.Records.{fault_after, fault_of}
+use Rattle.judging.specs.Records.{fault_of}
 use Rattle.judging.proofs.recorded.RecordedFault.told.Goals as goal
 
 abbrev made : (n : ℕ) → 0 < n → NonZeroU8
@@ -11,7 +11,6 @@ made n ok = record { value = n; ok = ok }
 
 -- there is one fault of each number
 fault_is : (x : NonZeroU8) (n : ℕ) → non_zero_u8_get x ≡ n → Some (record { number = x }) ≡ fault_of n
-unfolding fault_after
 fault_is x zero e = absurd (omega (arith, x.ok, e))
 fault_is x (suc n) e = ap (λ (y : NonZeroU8). Some (record { number = y })) (same x.value (suc n) x.ok (zero-lt-suc n) e) where
   same : (m n : ℕ) (p : 0 < m) (q : 0 < n) → m ≡ n → made m p ≡ made n q
